@@ -1,0 +1,21 @@
+use Rattle.octets.proofs.Laws.{past-end}
+use native.Mathlib.Omega.{arith}
+use lib.ListN.{List·getD-eq-default}
+use mathlib.Core.Path.{sym}
+use borrow.Author.Needs.{needs}
+use Rattle.octets.proofs.run.byte.Statement.{statement}
+use Rattle.octets.proofs.run.byte.Tie as tie
+use Rattle.octets.proofs.run.byte.Reads as reads
+use Rattle.octets.proofs.run.byte.Lts as lts
+
+shared-slice-read-result : tie.Need-shared-slice-read-result
+shared-slice-read-result c = search needs
+
+returns : tie.Need-returns
+returns c = search needs
+
+returns-2 : tie.Need-returns-2
+returns-2 c = past-end (c .before .args .s .now) (c .before .args .at) (c .if1 .left)
+
+pub byte-spec : {M : Type 1} → statement M
+byte-spec = tie.close (tie.spec shared-slice-read-result returns returns-2)

@@ -1,0 +1,75 @@
+use Rattle.octets.proofs.Laws.{part-length}
+use Rattle.octets.proofs.Laws.{part-left}
+use Prim.Native.Nat.{_<_}
+use Rattle.octets.proofs.Laws.{fill-turn, sets-all, tab-end, tab-length}
+use Rattle.octets.specs.Run.{tab, past, part}
+use lib.Seq.{sets}
+use lib.ListN.{length, length-set}
+use mathlib.Core.List.{List}
+use Prim.Native.Nat.{ℕ, _-_, _≤_}
+use native.Mathlib.Omega.{arith}
+use mathlib.Core.Path.{_≡_, refl, ap, sym, _∙_}
+use borrow.Author.Needs.{needs}
+use Rattle.octets.proofs.run.fill.Statement.{statement}
+use Rattle.octets.proofs.run.fill.Tie as tie
+use Rattle.octets.proofs.run.fill.Reads as reads
+use Rattle.octets.proofs.run.fill.Lts as lts
+use Rattle.octets.proofs.run.byte_past.Reads as byte-past-reads
+
+abbrev Inv-loop : tie.InvT-loop
+Inv-loop out₀ s at i₀ out i = (i ≤ length out₀) × (length out ≡ length out₀) × (sets out i (tab (past s at) i (length out₀ - i)) ≡ part s at (length out₀))
+
+abbrev μ-loop : tie.MeasureT-loop
+μ-loop out₀ s at i₀ out i = length out₀ - i
+
+loop-holds : tie.Need-loop-holds Inv-loop μ-loop
+loop-holds c =
+    let a = c .before .before .args in
+    let n = length (a .out .now) in
+    (omega arith, refl, rw part-left (sets-all (a .out .now) (part (a .s .now) (a .at) n) (part-length (a .s .now) (a .at) n)))
+
+byte-past-requires : tie.Need-byte-past-requires Inv-loop μ-loop
+byte-past-requires c κs = search needs
+
+slice-write-out : tie.Need-slice-write-out Inv-loop μ-loop
+slice-write-out c = search needs
+
+add-i : tie.Need-add-i Inv-loop μ-loop
+add-i c = search needs
+
+loop-less : tie.Need-loop-less Inv-loop μ-loop
+loop-less c = search needs
+
+loop-again : tie.Need-loop-again Inv-loop μ-loop
+loop-again c =
+    let a = c .before .before .before .before .before .args in
+    let l = c .before .before .loop in
+    let e = c .byte-past .ensures in
+    let h : l .i < length (a .out .now) = omega arith in
+    (omega arith, simp length-set (l .inv .1),
+     rw (c .byte-past .ensures) (sym (fill-turn (l .out) (a .s .now) (a .at) (l .i) (length (a .out .now)) h) ∙ l .inv .2))
+
+same-length : tie.Need-same-length Inv-loop μ-loop
+same-length c = c .before .loop .inv .1
+
+returns : tie.Need-returns Inv-loop μ-loop
+returns c =
+    let a = c .before .before .before .before .args in
+    let l = c .before .loop in
+    let h : length (a .out .now) ≤ l .i = omega arith in
+    ap (λ (vs : List ℕ). sets (l .out) (l .i) vs) (sym (tab-end (past (a .s .now) (a .at)) (l .i) (length (a .out .now)) h)) ∙ l .inv .2
+
+pub fill-spec : {M : Type 1} → statement M
+fill-spec =
+    tie.close
+    (tie.spec
+    Inv-loop
+    μ-loop
+    loop-holds
+    byte-past-requires
+    slice-write-out
+    add-i
+    loop-less
+    loop-again
+    same-length
+    returns)
