@@ -1,0 +1,48 @@
+-- The field rules, one definition each, in the order of document 01.
+-- Assumes nothing.
+use Prim.Native.Nat.{ℕ}
+use mathlib.Core.List.{List, [], _∷_}
+use mathlib.Core.Bool.{Bool, true, _&&_}
+use lib.Dec.{leb}
+use Rattle.octets.specs.Text as Octets
+use Rattle.sheet.specs.Sheet.{among, conditionMarks}
+
+-- 0 to 86,399,999 milliseconds past midnight
+abbrev pub time : ℕ → Bool
+time t = leb t 86399999
+
+-- one of O S Q M E C
+abbrev pub event : ℕ → Bool
+event e = among (79 ∷ 83 ∷ 81 ∷ 77 ∷ 69 ∷ 67 ∷ []) e
+
+-- Q (Nasdaq), L (TRF), B (BX), X (PSX)
+abbrev pub centre : ℕ → Bool
+centre c = among (81 ∷ 76 ∷ 66 ∷ 88 ∷ []) c
+
+-- one of Q N A P Z B
+abbrev pub class : ℕ → Bool
+class c = among (81 ∷ 78 ∷ 65 ∷ 80 ∷ 90 ∷ 66 ∷ []) c
+
+-- symbol and control: one or more bytes 33 to 126, then spaces to the end
+abbrev pub text : List ℕ → Bool
+text xs = Octets.text xs
+
+-- a trade's price: 1 to 2,000,000,000 ten-thousandths
+abbrev pub tradePrice : ℕ → Bool
+tradePrice p = leb 1 p && leb p 2000000000
+
+-- each of J's three prices: 0 to 2,000,000,000
+abbrev pub summaryPrice : ℕ → Bool
+summaryPrice p = leb p 2000000000
+
+-- 1 to 4,294,967,295, the largest that four bytes hold
+abbrev pub size : ℕ → Bool
+size s = leb 1 s
+
+-- any
+abbrev pub consolidated : ℕ → Bool
+consolidated v = true
+
+-- four codes, one from each row of the sheet
+abbrev pub condition : List ℕ → Bool
+condition c = conditionMarks c .listed

@@ -1,0 +1,92 @@
+// One message of the feed, read from bytes and written to bytes.
+pub mod answer;
+mod fields;
+mod rules;
+mod store;
+
+use answer::Answer;
+ghost use mathlib.Core.Path.{_≡_};
+ghost use Rattle.message.specs.Reading.{lengthOf, readOf, judgedOf};
+ghost use Rattle.message.specs.Writing.{writeAnswer, writeOut};
+
+// What a message says of one trade: 22 bytes that stand alike wherever they occur.
+pub struct Sale {
+    pub control: [u8; 10],
+    pub price: u32,
+    pub size: u32,
+    pub condition: [u8; 4],
+}
+
+// A message. `kind` is its type's letter; `sale` is T's trade, and the original that X and C name; `new` is what C
+// puts in its place. A field that the type lacks is zero.
+pub struct Record {
+    pub kind: u8,
+    pub time: u32,
+    pub event: u8,
+    pub centre: u8,
+    pub symbol: [u8; 8],
+    pub class: u8,
+    pub sale: Sale,
+    pub new: Sale,
+    pub high: u32,
+    pub low: u32,
+    pub close: u32,
+    pub consolidated: u64,
+}
+
+// What reading says back: a record of zeros where the answer is not `Done`.
+pub struct Reading {
+    pub answer: Answer,
+    pub found: Record,
+}
+
+// The length of a type's messages, by its letter; 0 for a letter of no type.
+fn length_of(kind: u8) -> usize
+    ensures { λ r. ⌜ r ≡ lengthOf kind ⌝ }
+{
+    match kind {
+        b'S' => 6,
+        b'T' => 45,
+        b'X' => 45,
+        b'C' => 67,
+        b'J' => 34,
+        _ => 0,
+    }
+}
+
+fn judged(r: Record) -> Reading
+    ensures { λ o. ⌜ o ≡ judgedOf r ⌝ }
+{
+    if rules::lawful(r) {
+        Reading { answer: Answer::Done, found: r }
+    } else {
+        fields::refused(Answer::FieldBroken)
+    }
+}
+
+// The message that the bytes are. Answers 0, 4 or 5.
+pub fn read(message: &[u8]) -> Reading
+    ensures { λ r. ⌜ r ≡ readOf (now (message .entry)) ⌝ }
+{
+    let kind = octets::run::byte(message, 4);
+    let need = length_of(kind);
+    if (need == 0) | (message.len() != need) {
+        return fields::refused(Answer::NoType);
+    }
+    judged(fields::fields(message))
+}
+
+// The record's bytes at the front of out, the rest of out as it was. Answers 0, 5 or 18; where not 0, out stays.
+pub fn write(r: Record, out: &mut [u8]) -> Answer
+    ensures answer { λ a. ⌜ a ≡ writeAnswer r (now (out .entry)) ⌝ }
+    ensures left { λ a. ⌜ now (out .exit) ≡ writeOut r (now (out .entry)) ⌝ }
+{
+    let kind = r.kind;
+    let sound = rules::lawful(r);
+    let room = length_of(kind) <= out.len();
+    if sound & room {
+        store::store(out, r);
+        return Answer::Done;
+    }
+    if sound { Answer::NoSpace } else { Answer::FieldBroken }
+}

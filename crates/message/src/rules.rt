@@ -1,0 +1,135 @@
+// The field rules, and whether a record keeps those of its type.
+use crate::{Record, Sale};
+use octets::text::{is_all, is_text};
+ghost use mathlib.Core.Path.{_≡_};
+ghost use Rattle.message.specs.Rules as Rules;
+ghost use Rattle.message.specs.Reading as R;
+
+fn time_ok(t: u32) -> bool
+    ensures { λ r. ⌜ r ≡ Rules.time t ⌝ }
+{
+    t <= 86399999
+}
+
+fn event_ok(e: u8) -> bool
+    ensures { λ r. ⌜ r ≡ Rules.event e ⌝ }
+{
+    (e == b'O') | (e == b'S') | (e == b'Q') | (e == b'M') | (e == b'E') | (e == b'C')
+}
+
+fn centre_ok(c: u8) -> bool
+    ensures { λ r. ⌜ r ≡ Rules.centre c ⌝ }
+{
+    (c == b'Q') | (c == b'L') | (c == b'B') | (c == b'X')
+}
+
+fn class_ok(c: u8) -> bool
+    ensures { λ r. ⌜ r ≡ Rules.class c ⌝ }
+{
+    (c == b'Q') | (c == b'N') | (c == b'A') | (c == b'P') | (c == b'Z') | (c == b'B')
+}
+
+fn price_ok(p: u32) -> bool
+    ensures { λ r. ⌜ r ≡ Rules.tradePrice p ⌝ }
+{
+    (1 <= p) & (p <= 2000000000)
+}
+
+fn summary_price_ok(p: u32) -> bool
+    ensures { λ r. ⌜ r ≡ Rules.summaryPrice p ⌝ }
+{
+    p <= 2000000000
+}
+
+fn sale_ok(s: Sale) -> bool
+    ensures { λ r. ⌜ r ≡ R.saleOk s ⌝ }
+{
+    let control = s.control;
+    let condition = s.condition;
+    let marks = sheet::condition_marks(condition);
+    is_text(&control) & price_ok(s.price) & (1 <= s.size) & marks.listed
+}
+
+// Whether a trade's fields are all zero.
+fn sale_none(s: Sale) -> bool
+    ensures { λ r. ⌜ r ≡ R.saleNone s ⌝ }
+{
+    let control = s.control;
+    let condition = s.condition;
+    is_all(&control, 0, 0) & (s.price == 0) & (s.size == 0) & is_all(&condition, 0, 0)
+}
+
+fn lawful_s(r: Record) -> bool
+    ensures { λ b. ⌜ b ≡ R.lawfulS r ⌝ }
+{
+    let symbol = r.symbol;
+    let sale = r.sale;
+    let new = r.new;
+    time_ok(r.time)
+        & event_ok(r.event)
+        & (r.centre == 0)
+        & is_all(&symbol, 0, 0)
+        & (r.class == 0)
+        & sale_none(sale)
+        & sale_none(new)
+        & (r.high == 0)
+        & (r.low == 0)
+        & (r.close == 0)
+        & (r.consolidated == 0)
+}
+
+// What T, X and C have in common.
+fn lawful_trade(r: Record) -> bool
+    ensures { λ b. ⌜ b ≡ R.lawfulTrade r ⌝ }
+{
+    let symbol = r.symbol;
+    let sale = r.sale;
+    time_ok(r.time)
+        & (r.event == 0)
+        & centre_ok(r.centre)
+        & is_text(&symbol)
+        & class_ok(r.class)
+        & sale_ok(sale)
+        & (r.high == 0)
+        & (r.low == 0)
+        & (r.close == 0)
+}
+
+fn lawful_j(r: Record) -> bool
+    ensures { λ b. ⌜ b ≡ R.lawfulJ r ⌝ }
+{
+    let symbol = r.symbol;
+    let sale = r.sale;
+    let new = r.new;
+    time_ok(r.time)
+        & (r.event == 0)
+        & (r.centre == 0)
+        & is_text(&symbol)
+        & class_ok(r.class)
+        & sale_none(sale)
+        & sale_none(new)
+        & summary_price_ok(r.high)
+        & summary_price_ok(r.low)
+        & summary_price_ok(r.close)
+}
+
+// Whether a record keeps every rule of its type and has nothing in a field that the type lacks.
+pub fn lawful(r: Record) -> bool
+    ensures { λ b. ⌜ b ≡ R.lawfulOf r ⌝ }
+{
+    let kind = r.kind;
+    let new = r.new;
+    if kind == b'S' {
+        return lawful_s(r);
+    }
+    if kind == b'C' {
+        return lawful_trade(r) & sale_ok(new);
+    }
+    if kind == b'J' {
+        return lawful_j(r);
+    }
+    if (kind == b'T') | (kind == b'X') {
+        return lawful_trade(r) & sale_none(new);
+    }
+    false
+}
