@@ -1,31 +1,37 @@
+use borrow.Author.Tests.{ne-eqb, eq-eqb}
+use Rattle.message.specs.Reading as R
+use mathlib.Core.Path.{_≡_, refl, ap, sym, _∙_}
+use borrow.Author.Needs.{needs}
 use Rattle.message.proofs.length_of.Statement.{statement}
 use Rattle.message.proofs.length_of.Tie as tie
 use Rattle.message.proofs.length_of.Reads as reads
 use Rattle.message.proofs.length_of.Lts as lts
 
--- src/lib.rt:44:1
 returns : tie.Need-returns
-returns c = ?
+unfolding R.lengthOf
+returns c = rw (c .match .keys1)
 
--- src/lib.rt:44:1
 returns-2 : tie.Need-returns-2
-returns-2 c = ?
+unfolding R.lengthOf
+returns-2 c = rw (c .match .keys2)
 
--- src/lib.rt:44:1
 returns-3 : tie.Need-returns-3
-returns-3 c = ?
+unfolding R.lengthOf
+returns-3 c = rw (c .match .keys3)
 
--- src/lib.rt:44:1
 returns-4 : tie.Need-returns-4
-returns-4 c = ?
+unfolding R.lengthOf
+returns-4 c = rw (c .match .keys4)
 
--- src/lib.rt:44:1
 returns-5 : tie.Need-returns-5
-returns-5 c = ?
+unfolding R.lengthOf
+returns-5 c = rw (c .match .keys5)
 
--- src/lib.rt:44:1
 returns-6 : tie.Need-returns-6
-returns-6 c = ?
+unfolding R.lengthOf
+returns-6 c =
+    let r = c .match .rest in
+    simp (ne-eqb _ _ (r .0 .0 .0 .0 .1), ne-eqb _ _ (r .0 .0 .0 .1), ne-eqb _ _ (r .0 .0 .1), ne-eqb _ _ (r .0 .1), ne-eqb _ _ (r .1))
 
 pub length-of-spec : {M : Type 1} → statement M
 length-of-spec = tie.close (tie.spec returns returns-2 returns-3 returns-4 returns-5 returns-6)

@@ -1,3 +1,6 @@
+use borrow.Author.Tests.{ne-eqb, eq-eqb}
+use Rattle.message.specs.Reading as R
+use mathlib.Core.Path.{_≡_, refl, ap, sym, _∙_}
 use borrow.Author.Needs.{needs}
 use Rattle.message.proofs.read.Statement.{statement}
 use Rattle.message.proofs.read.Tie as tie
@@ -9,33 +12,28 @@ use Rattle.message.proofs.judged.Reads as judged-reads
 use Rattle.message.proofs.length_of.Reads as length-of-reads
 use Rattle.octets.proofs.run.byte.Reads as byte-reads
 
--- src/lib.rt:71:9
 byte-requires : tie.Need-byte-requires
 byte-requires c κs = search needs
 
--- src/lib.rt:72:9
 length-of-requires : tie.Need-length-of-requires
 length-of-requires c κs = search needs
 
--- src/lib.rt:74:9
 refused-requires : tie.Need-refused-requires
 refused-requires c κs = search needs
 
--- src/lib.rt:74:9
 returns : tie.Need-returns
-returns c = ?
+unfolding R.readOf
+returns c = simp (← c .before .before .before .byte .ensures, ← c .before .before .length-of .ensures, c .before .if1 .taken) (c .refused .ensures)
 
--- src/lib.rt:76:12
 fields-requires : tie.Need-fields-requires
 fields-requires c κs = search needs
 
--- src/lib.rt:76:5
 judged-requires : tie.Need-judged-requires
 judged-requires c κs = search needs
 
--- src/lib.rt:68:1
 returns-2 : tie.Need-returns-2
-returns-2 c = ?
+unfolding R.readOf
+returns-2 c = simp (← c .before .before .before .before .byte .ensures, ← c .before .before .before .length-of .ensures, c .before .before .if1 .left) (c .judged .ensures ∙ ap R.judgedOf (c .before .fields .ensures))
 
 pub read-spec : {M : Type 1} → statement M
 read-spec =

@@ -1,160 +1,124 @@
+use Rattle.message.specs.Answers.{numberOf}
+use mathlib.Core.Path.{_≡_, refl, ap, sym, _∙_}
 use borrow.Author.Needs.{needs}
 use Rattle.message.proofs.answer.number.Statement.{statement}
 use Rattle.message.proofs.answer.number.Tie as tie
 use Rattle.message.proofs.answer.number.Reads as reads
 use Rattle.message.proofs.answer.number.Lts as lts
 
--- src/answer.rt:32:25
 enum-told : tie.Need-enum-told
 enum-told c = search needs
 
--- src/answer.rt:33:34
 enum-told-2 : tie.Need-enum-told-2
 enum-told-2 c = search needs
 
--- src/answer.rt:34:32
 enum-told-3 : tie.Need-enum-told-3
 enum-told-3 c = search needs
 
--- src/answer.rt:35:32
 enum-told-4 : tie.Need-enum-told-4
 enum-told-4 c = search needs
 
--- src/answer.rt:36:27
 enum-told-5 : tie.Need-enum-told-5
 enum-told-5 c = search needs
 
--- src/answer.rt:37:32
 enum-told-6 : tie.Need-enum-told-6
 enum-told-6 c = search needs
 
--- src/answer.rt:38:27
 enum-told-7 : tie.Need-enum-told-7
 enum-told-7 c = search needs
 
--- src/answer.rt:39:30
 enum-told-8 : tie.Need-enum-told-8
 enum-told-8 c = search needs
 
--- src/answer.rt:40:27
 enum-told-9 : tie.Need-enum-told-9
 enum-told-9 c = search needs
 
--- src/answer.rt:41:29
 enum-told-10 : tie.Need-enum-told-10
 enum-told-10 c = search needs
 
--- src/answer.rt:42:32
 enum-told-11 : tie.Need-enum-told-11
 enum-told-11 c = search needs
 
--- src/answer.rt:43:28
 enum-told-12 : tie.Need-enum-told-12
 enum-told-12 c = search needs
 
--- src/answer.rt:44:30
 enum-told-13 : tie.Need-enum-told-13
 enum-told-13 c = search needs
 
--- src/answer.rt:45:34
 enum-told-14 : tie.Need-enum-told-14
 enum-told-14 c = search needs
 
--- src/answer.rt:46:32
 enum-told-15 : tie.Need-enum-told-15
 enum-told-15 c = search needs
 
--- src/answer.rt:47:34
 enum-told-16 : tie.Need-enum-told-16
 enum-told-16 c = search needs
 
--- src/answer.rt:48:29
 enum-told-17 : tie.Need-enum-told-17
 enum-told-17 c = search needs
 
--- src/answer.rt:49:28
 enum-told-18 : tie.Need-enum-told-18
 enum-told-18 c = search needs
 
--- src/answer.rt:50:28
 enum-told-19 : tie.Need-enum-told-19
 enum-told-19 c = search needs
 
--- src/answer.rt:28:1
 returns : tie.Need-returns
-returns c = ?
+returns c = sym (ap numberOf (c .enum-told .given .1))
 
--- src/answer.rt:28:1
 returns-2 : tie.Need-returns-2
-returns-2 c = ?
+returns-2 c = sym (ap numberOf (c .enum-told2 .given .1))
 
--- src/answer.rt:28:1
 returns-3 : tie.Need-returns-3
-returns-3 c = ?
+returns-3 c = sym (ap numberOf (c .enum-told3 .given .1))
 
--- src/answer.rt:28:1
 returns-4 : tie.Need-returns-4
-returns-4 c = ?
+returns-4 c = sym (ap numberOf (c .enum-told4 .given .1))
 
--- src/answer.rt:28:1
 returns-5 : tie.Need-returns-5
-returns-5 c = ?
+returns-5 c = sym (ap numberOf (c .enum-told5 .given .1))
 
--- src/answer.rt:28:1
 returns-6 : tie.Need-returns-6
-returns-6 c = ?
+returns-6 c = sym (ap numberOf (c .enum-told6 .given .1))
 
--- src/answer.rt:28:1
 returns-7 : tie.Need-returns-7
-returns-7 c = ?
+returns-7 c = sym (ap numberOf (c .enum-told7 .given .1))
 
--- src/answer.rt:28:1
 returns-8 : tie.Need-returns-8
-returns-8 c = ?
+returns-8 c = sym (ap numberOf (c .enum-told8 .given .1))
 
--- src/answer.rt:28:1
 returns-9 : tie.Need-returns-9
-returns-9 c = ?
+returns-9 c = sym (ap numberOf (c .enum-told9 .given .1))
 
--- src/answer.rt:28:1
 returns-10 : tie.Need-returns-10
-returns-10 c = ?
+returns-10 c = sym (ap numberOf (c .enum-told10 .given .1))
 
--- src/answer.rt:28:1
 returns-11 : tie.Need-returns-11
-returns-11 c = ?
+returns-11 c = sym (ap numberOf (c .enum-told11 .given .1))
 
--- src/answer.rt:28:1
 returns-12 : tie.Need-returns-12
-returns-12 c = ?
+returns-12 c = sym (ap numberOf (c .enum-told12 .given .1))
 
--- src/answer.rt:28:1
 returns-13 : tie.Need-returns-13
-returns-13 c = ?
+returns-13 c = sym (ap numberOf (c .enum-told13 .given .1))
 
--- src/answer.rt:28:1
 returns-14 : tie.Need-returns-14
-returns-14 c = ?
+returns-14 c = sym (ap numberOf (c .enum-told14 .given .1))
 
--- src/answer.rt:28:1
 returns-15 : tie.Need-returns-15
-returns-15 c = ?
+returns-15 c = sym (ap numberOf (c .enum-told15 .given .1))
 
--- src/answer.rt:28:1
 returns-16 : tie.Need-returns-16
-returns-16 c = ?
+returns-16 c = sym (ap numberOf (c .enum-told16 .given .1))
 
--- src/answer.rt:28:1
 returns-17 : tie.Need-returns-17
-returns-17 c = ?
+returns-17 c = sym (ap numberOf (c .enum-told17 .given .1))
 
--- src/answer.rt:28:1
 returns-18 : tie.Need-returns-18
-returns-18 c = ?
+returns-18 c = sym (ap numberOf (c .enum-told18 .given .1))
 
--- src/answer.rt:28:1
 returns-19 : tie.Need-returns-19
-returns-19 c = ?
+returns-19 c = sym (ap numberOf (c .enum-told19 .given .1))
 
 pub number-spec : {M : Type 1} → statement M
 number-spec =

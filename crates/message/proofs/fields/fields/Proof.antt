@@ -1,3 +1,6 @@
+use borrow.Author.Tests.{ne-eqb, eq-eqb}
+use Rattle.message.specs.Reading as R
+use mathlib.Core.Path.{_≡_, refl, ap, sym, _∙_}
 use borrow.Author.Needs.{needs}
 use Rattle.message.proofs.fields.fields.Statement.{statement}
 use Rattle.message.proofs.fields.fields.Tie as tie
@@ -11,57 +14,48 @@ use Rattle.message.proofs.fields.sale_at.Reads as sale-at-reads
 use Rattle.octets.proofs.number.number8.Reads as number8-reads
 use Rattle.octets.proofs.run.byte.Reads as byte-reads
 
--- src/fields.rt:148:9
 byte-requires : tie.Need-byte-requires
 byte-requires c κs = search needs
 
--- src/fields.rt:150:9
 fields-s-requires : tie.Need-fields-s-requires
 fields-s-requires c κs = search needs
 
--- src/fields.rt:150:9
 returns : tie.Need-returns
-returns c = ?
+unfolding R.fieldsOf
+returns c = simp (← c .before .before .byte .ensures, eq-eqb _ _ (c .before .if1 .taken)) (c .fields-s .ensures)
 
--- src/fields.rt:153:13
 sale-at-requires : tie.Need-sale-at-requires
 sale-at-requires c κs = search needs
 
--- src/fields.rt:154:13
 number8-requires : tie.Need-number8-requires
 number8-requires c κs = search needs
 
--- src/fields.rt:155:9
 fields-trade-requires : tie.Need-fields-trade-requires
 fields-trade-requires c κs = search needs
 
--- src/fields.rt:155:9
 returns-2 : tie.Need-returns-2
-returns-2 c = ?
+unfolding R.fieldsOf
+returns-2 c = simp (← c .before .before .before .before .before .byte .ensures, ne-eqb _ _ (c .before .before .before .before .if1 .left), eq-eqb _ _ (c .before .before .before .if2 .taken)) (c .fields-trade .ensures ∙ cc (c .before .number8 .ensures, c .before .before .sale-at .ensures))
 
--- src/fields.rt:158:9
 fields-j-requires : tie.Need-fields-j-requires
 fields-j-requires c κs = search needs
 
--- src/fields.rt:158:9
 returns-3 : tie.Need-returns-3
-returns-3 c = ?
+unfolding R.fieldsOf
+returns-3 c = simp (← c .before .before .before .before .byte .ensures, ne-eqb _ _ (c .before .before .before .if1 .left), ne-eqb _ _ (c .before .before .if2 .left), eq-eqb _ _ (c .before .if3 .taken)) (c .fields-j .ensures)
 
--- src/fields.rt:160:9
 no-sale-requires : tie.Need-no-sale-requires
 no-sale-requires c κs = search needs
 
--- src/fields.rt:161:9
 number8-requires-2 : tie.Need-number8-requires-2
 number8-requires-2 c κs = search needs
 
--- src/fields.rt:162:5
 fields-trade-requires-2 : tie.Need-fields-trade-requires-2
 fields-trade-requires-2 c κs = search needs
 
--- src/fields.rt:145:1
 returns-4 : tie.Need-returns-4
-returns-4 c = ?
+unfolding R.fieldsOf
+returns-4 c = simp (← c .before .before .before .before .before .before .byte .ensures, ne-eqb _ _ (c .before .before .before .before .before .if1 .left), ne-eqb _ _ (c .before .before .before .before .if2 .left), ne-eqb _ _ (c .before .before .before .if3 .left)) (c .fields-trade2 .ensures ∙ cc (c .before .number82 .ensures, c .before .before .no-sale .ensures))
 
 pub fields-spec : {M : Type 1} → statement M
 fields-spec =

@@ -1,3 +1,4 @@
+use Rattle.message.specs.Reading as R
 use borrow.Author.Needs.{needs}
 use Rattle.message.proofs.fields.fields_j.Statement.{statement}
 use Rattle.message.proofs.fields.fields_j.Tie as tie
@@ -9,53 +10,42 @@ use Rattle.octets.proofs.number.number8.Reads as number8-reads
 use Rattle.octets.proofs.run.byte.Reads as byte-reads
 use Rattle.octets.proofs.run.fill.Reads as fill-reads
 
--- src/fields.rt:117:9
 number4-requires : tie.Need-number4-requires
 number4-requires c κs = search needs
 
--- src/fields.rt:118:9
 byte-requires : tie.Need-byte-requires
 byte-requires c κs = search needs
 
--- src/fields.rt:120:10
 slice-aggregate-fill : tie.Need-slice-aggregate-fill
 slice-aggregate-fill c = search needs
 
--- src/fields.rt:120:5
 fill-requires : tie.Need-fill-requires
 fill-requires c κs = search needs
 
--- src/fields.rt:121:9
 byte-requires-2 : tie.Need-byte-requires-2
 byte-requires-2 c κs = search needs
 
--- src/fields.rt:122:9
 no-sale-requires : tie.Need-no-sale-requires
 no-sale-requires c κs = search needs
 
--- src/fields.rt:123:9
 no-sale-requires-2 : tie.Need-no-sale-requires-2
 no-sale-requires-2 c κs = search needs
 
--- src/fields.rt:124:9
 number4-requires-2 : tie.Need-number4-requires-2
 number4-requires-2 c κs = search needs
 
--- src/fields.rt:125:9
 number4-requires-3 : tie.Need-number4-requires-3
 number4-requires-3 c κs = search needs
 
--- src/fields.rt:126:9
 number4-requires-4 : tie.Need-number4-requires-4
 number4-requires-4 c κs = search needs
 
--- src/fields.rt:127:9
 number8-requires : tie.Need-number8-requires
 number8-requires c κs = search needs
 
--- src/fields.rt:114:1
 returns : tie.Need-returns
-returns c = ?
+unfolding R.fieldsJ
+returns c = cc
 
 pub fields-j-spec : {M : Type 1} → statement M
 fields-j-spec =

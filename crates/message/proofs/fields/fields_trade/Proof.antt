@@ -1,3 +1,4 @@
+use Rattle.message.specs.Reading as R
 use borrow.Author.Needs.{needs}
 use Rattle.message.proofs.fields.fields_trade.Statement.{statement}
 use Rattle.message.proofs.fields.fields_trade.Tie as tie
@@ -8,37 +9,30 @@ use Rattle.octets.proofs.number.number4.Reads as number4-reads
 use Rattle.octets.proofs.run.byte.Reads as byte-reads
 use Rattle.octets.proofs.run.fill.Reads as fill-reads
 
--- src/fields.rt:91:9
 number4-requires : tie.Need-number4-requires
 number4-requires c κs = search needs
 
--- src/fields.rt:92:9
 byte-requires : tie.Need-byte-requires
 byte-requires c κs = search needs
 
--- src/fields.rt:93:9
 byte-requires-2 : tie.Need-byte-requires-2
 byte-requires-2 c κs = search needs
 
--- src/fields.rt:95:10
 slice-aggregate-fill : tie.Need-slice-aggregate-fill
 slice-aggregate-fill c = search needs
 
--- src/fields.rt:95:5
 fill-requires : tie.Need-fill-requires
 fill-requires c κs = search needs
 
--- src/fields.rt:96:9
 byte-requires-3 : tie.Need-byte-requires-3
 byte-requires-3 c κs = search needs
 
--- src/fields.rt:97:9
 sale-at-requires : tie.Need-sale-at-requires
 sale-at-requires c κs = search needs
 
--- src/fields.rt:88:1
 returns : tie.Need-returns
-returns c = ?
+unfolding R.fieldsTrade
+returns c = cc
 
 pub fields-trade-spec : {M : Type 1} → statement M
 fields-trade-spec =

@@ -5,17 +5,14 @@ use Rattle.message.proofs.fields.refused.Reads as reads
 use Rattle.message.proofs.fields.refused.Lts as lts
 use Rattle.message.proofs.fields.no_sale.Reads as no-sale-reads
 
--- src/fields.rt:25:9
 no-sale-requires : tie.Need-no-sale-requires
 no-sale-requires c κs = search needs
 
--- src/fields.rt:26:9
 no-sale-requires-2 : tie.Need-no-sale-requires-2
 no-sale-requires-2 c κs = search needs
 
--- src/fields.rt:22:1
 returns : tie.Need-returns
-returns c = ?
+returns c = cc
 
 pub refused-spec : {M : Type 1} → statement M
 refused-spec = tie.close (tie.spec no-sale-requires no-sale-requires-2 returns)

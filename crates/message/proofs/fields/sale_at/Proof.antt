@@ -1,3 +1,4 @@
+use Rattle.message.specs.Reading as R
 use borrow.Author.Needs.{needs}
 use Rattle.message.proofs.fields.sale_at.Statement.{statement}
 use Rattle.message.proofs.fields.sale_at.Tie as tie
@@ -6,45 +7,36 @@ use Rattle.message.proofs.fields.sale_at.Lts as lts
 use Rattle.octets.proofs.number.number4.Reads as number4-reads
 use Rattle.octets.proofs.run.fill.Reads as fill-reads
 
--- src/fields.rt:50:10
 slice-aggregate-fill : tie.Need-slice-aggregate-fill
 slice-aggregate-fill c = search needs
 
--- src/fields.rt:50:5
 fill-requires : tie.Need-fill-requires
 fill-requires c κs = search needs
 
--- src/fields.rt:51:28
 add-number4 : tie.Need-add-number4
 add-number4 c = search needs
 
--- src/fields.rt:51:9
 number4-requires : tie.Need-number4-requires
 number4-requires c κs = search needs
 
--- src/fields.rt:52:27
 add-number4-2 : tie.Need-add-number4-2
 add-number4-2 c = search needs
 
--- src/fields.rt:52:9
 number4-requires-2 : tie.Need-number4-requires-2
 number4-requires-2 c κs = search needs
 
--- src/fields.rt:54:10
 slice-aggregate-fill-2 : tie.Need-slice-aggregate-fill-2
 slice-aggregate-fill-2 c = search needs
 
--- src/fields.rt:54:29
 add-fill : tie.Need-add-fill
 add-fill c = search needs
 
--- src/fields.rt:54:5
 fill-requires-2 : tie.Need-fill-requires-2
 fill-requires-2 c κs = search needs
 
--- src/fields.rt:45:1
 returns : tie.Need-returns
-returns c = ?
+unfolding R.saleAt
+returns c = cc
 
 pub sale-at-spec : {M : Type 1} → statement M
 sale-at-spec =

@@ -1,11 +1,12 @@
+use mathlib.Core.Bool.{or-assoc, or-false}
+use borrow.Author.Needs.{needs}
 use Rattle.message.proofs.rules.event_ok.Statement.{statement}
 use Rattle.message.proofs.rules.event_ok.Tie as tie
 use Rattle.message.proofs.rules.event_ok.Reads as reads
 use Rattle.message.proofs.rules.event_ok.Lts as lts
 
--- src/rules.rt:14:1
 returns : tie.Need-returns
-returns c = ?
+returns c = simp (or-assoc, or-false)
 
 pub event-ok-spec : {M : Type 1} → statement M
 event-ok-spec = tie.close (tie.spec returns)

@@ -1,3 +1,6 @@
+use borrow.Author.Tests.{ne-eqb, eq-eqb}
+use Rattle.message.specs.Reading as R
+use mathlib.Core.Path.{_≡_, refl, ap, sym, _∙_}
 use borrow.Author.Needs.{needs}
 use Rattle.message.proofs.rules.lawful.Statement.{statement}
 use Rattle.message.proofs.rules.lawful.Tie as tie
@@ -9,49 +12,43 @@ use Rattle.message.proofs.rules.lawful_trade.Reads as lawful-trade-read
 use Rattle.message.proofs.rules.sale_none.Reads as sale-none-reads
 use Rattle.message.proofs.rules.sale_ok.Reads as sale-ok-reads
 
--- src/rules.rt:123:9
 lawful-s-requires : tie.Need-lawful-s-requires
 lawful-s-requires c κs = search needs
 
--- src/rules.rt:123:9
 returns : tie.Need-returns
-returns c = ?
+unfolding R.lawfulOf
+returns c = simp (eq-eqb _ _ (c .before .if1 .taken)) (c .lawful-s .ensures)
 
--- src/rules.rt:126:16
 lawful-trade-requires : tie.Need-lawful-trade-requires
 lawful-trade-requires c κs = search needs
 
--- src/rules.rt:126:34
 sale-ok-requires : tie.Need-sale-ok-requires
 sale-ok-requires c κs = search needs
 
--- src/rules.rt:126:9
 returns-2 : tie.Need-returns-2
-returns-2 c = ?
+unfolding R.lawfulOf
+returns-2 c = simp (ne-eqb _ _ (c .before .before .before .if1 .left), eq-eqb _ _ (c .before .before .if2 .taken), c .before .lawful-trade .ensures, c .sale-ok .ensures)
 
--- src/rules.rt:129:9
 lawful-j-requires : tie.Need-lawful-j-requires
 lawful-j-requires c κs = search needs
 
--- src/rules.rt:129:9
 returns-3 : tie.Need-returns-3
-returns-3 c = ?
+unfolding R.lawfulOf
+returns-3 c = simp (ne-eqb _ _ (c .before .before .before .if1 .left), ne-eqb _ _ (c .before .before .if2 .left), eq-eqb _ _ (c .before .if3 .taken)) (c .lawful-j .ensures)
 
--- src/rules.rt:132:16
 lawful-trade-requires-2 : tie.Need-lawful-trade-requires-2
 lawful-trade-requires-2 c κs = search needs
 
--- src/rules.rt:132:34
 sale-none-requires : tie.Need-sale-none-requires
 sale-none-requires c κs = search needs
 
--- src/rules.rt:132:9
 returns-4 : tie.Need-returns-4
-returns-4 c = ?
+unfolding R.lawfulOf
+returns-4 c = simp (ne-eqb _ _ (c .before .before .before .before .before .if1 .left), ne-eqb _ _ (c .before .before .before .before .if2 .left), ne-eqb _ _ (c .before .before .before .if3 .left), c .before .before .if4 .taken, c .before .lawful-trade2 .ensures, c .sale-none .ensures)
 
--- src/rules.rt:117:1
 returns-5 : tie.Need-returns-5
-returns-5 c = ?
+unfolding R.lawfulOf
+returns-5 c = simp (ne-eqb _ _ (c .before .before .before .if1 .left), ne-eqb _ _ (c .before .before .if2 .left), ne-eqb _ _ (c .before .if3 .left), c .if4 .left)
 
 pub lawful-spec : {M : Type 1} → statement M
 lawful-spec =

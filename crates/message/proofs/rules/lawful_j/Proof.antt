@@ -1,3 +1,4 @@
+use Rattle.message.specs.Reading as R
 use borrow.Author.Needs.{needs}
 use Rattle.message.proofs.rules.lawful_j.Statement.{statement}
 use Rattle.message.proofs.rules.lawful_j.Tie as tie
@@ -9,45 +10,36 @@ use Rattle.message.proofs.rules.summary_price_ok.Reads as summary-price
 use Rattle.message.proofs.rules.time_ok.Reads as time-ok-reads
 use Rattle.octets.proofs.text.is_text.Reads as is-text-reads
 
--- src/rules.rt:104:5
 time-ok-requires : tie.Need-time-ok-requires
 time-ok-requires c κs = search needs
 
--- src/rules.rt:107:19
 slice-aggregate-is-text : tie.Need-slice-aggregate-is-text
 slice-aggregate-is-text c = search needs
 
--- src/rules.rt:107:11
 is-text-requires : tie.Need-is-text-requires
 is-text-requires c κs = search needs
 
--- src/rules.rt:108:11
 class-ok-requires : tie.Need-class-ok-requires
 class-ok-requires c κs = search needs
 
--- src/rules.rt:109:11
 sale-none-requires : tie.Need-sale-none-requires
 sale-none-requires c κs = search needs
 
--- src/rules.rt:110:11
 sale-none-requires-2 : tie.Need-sale-none-requires-2
 sale-none-requires-2 c κs = search needs
 
--- src/rules.rt:111:11
 summary-price-ok-requires : tie.Need-summary-price-ok-requires
 summary-price-ok-requires c κs = search needs
 
--- src/rules.rt:112:11
 summary-price-ok-requires-2 : tie.Need-summary-price-ok-requires-2
 summary-price-ok-requires-2 c κs = search needs
 
--- src/rules.rt:113:11
 summary-price-ok-requires-3 : tie.Need-summary-price-ok-requires-3
 summary-price-ok-requires-3 c κs = search needs
 
--- src/rules.rt:98:1
 returns : tie.Need-returns
-returns c = ?
+unfolding R.lawfulJ
+returns c = cc
 
 pub lawful-j-spec : {M : Type 1} → statement M
 lawful-j-spec =

@@ -1,3 +1,4 @@
+use Rattle.message.specs.Reading as R
 use borrow.Author.Needs.{needs}
 use Rattle.message.proofs.rules.lawful_trade.Statement.{statement}
 use Rattle.message.proofs.rules.lawful_trade.Tie as tie
@@ -9,33 +10,27 @@ use Rattle.message.proofs.rules.sale_ok.Reads as sale-ok-reads
 use Rattle.message.proofs.rules.time_ok.Reads as time-ok-reads
 use Rattle.octets.proofs.text.is_text.Reads as is-text-reads
 
--- src/rules.rt:87:5
 time-ok-requires : tie.Need-time-ok-requires
 time-ok-requires c κs = search needs
 
--- src/rules.rt:89:11
 centre-ok-requires : tie.Need-centre-ok-requires
 centre-ok-requires c κs = search needs
 
--- src/rules.rt:90:19
 slice-aggregate-is-text : tie.Need-slice-aggregate-is-text
 slice-aggregate-is-text c = search needs
 
--- src/rules.rt:90:11
 is-text-requires : tie.Need-is-text-requires
 is-text-requires c κs = search needs
 
--- src/rules.rt:91:11
 class-ok-requires : tie.Need-class-ok-requires
 class-ok-requires c κs = search needs
 
--- src/rules.rt:92:11
 sale-ok-requires : tie.Need-sale-ok-requires
 sale-ok-requires c κs = search needs
 
--- src/rules.rt:82:1
 returns : tie.Need-returns
-returns c = ?
+unfolding R.lawfulTrade
+returns c = cc
 
 pub lawful-trade-spec : {M : Type 1} → statement M
 lawful-trade-spec =

@@ -1,3 +1,4 @@
+use Rattle.message.specs.Reading as R
 use borrow.Author.Needs.{needs}
 use Rattle.message.proofs.rules.sale_ok.Statement.{statement}
 use Rattle.message.proofs.rules.sale_ok.Tie as tie
@@ -7,25 +8,21 @@ use Rattle.message.proofs.rules.price_ok.Reads as price-ok-reads
 use Rattle.octets.proofs.text.is_text.Reads as is-text-reads
 use Rattle.sheet.proofs.condition_marks.Reads as condition-marks-reads
 
--- src/rules.rt:49:9
 condition-marks-requires : tie.Need-condition-marks-requires
 condition-marks-requires c κs = search needs
 
--- src/rules.rt:50:13
 slice-aggregate-is-text : tie.Need-slice-aggregate-is-text
 slice-aggregate-is-text c = search needs
 
--- src/rules.rt:50:5
 is-text-requires : tie.Need-is-text-requires
 is-text-requires c κs = search needs
 
--- src/rules.rt:50:25
 price-ok-requires : tie.Need-price-ok-requires
 price-ok-requires c κs = search needs
 
--- src/rules.rt:44:1
 returns : tie.Need-returns
-returns c = ?
+unfolding R.saleOk
+returns c = cc
 
 pub sale-ok-spec : {M : Type 1} → statement M
 sale-ok-spec =

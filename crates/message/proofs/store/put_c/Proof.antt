@@ -1,3 +1,5 @@
+use Rattle.message.proofs.Stores.{c-stored, Long, sale-length}
+use mathlib.Core.Path.{_≡_, refl, ap, sym, _∙_}
 use borrow.Author.Needs.{needs}
 use Rattle.message.proofs.store.put_c.Statement.{statement}
 use Rattle.message.proofs.store.put_c.Tie as tie
@@ -7,29 +9,34 @@ use Rattle.message.proofs.store.put_head.Reads as put-head-reads
 use Rattle.message.proofs.store.put_sale.Reads as put-sale-reads
 use Rattle.octets.proofs.number.put8.Reads as put8-reads
 
--- src/store.rt:58:5
+-- the texts of a record that came as a value
+long : (c : tie.Start) → Long (c .args .r)
+long c =
+    record {
+      symbol = search needs;
+      sale = sale-length (c .args .r .sale) (search needs) (search needs);
+      new = sale-length (c .args .r .new) (search needs) (search needs);
+    }
+
 put-head-requires : tie.Need-put-head-requires
 put-head-requires c κs = search needs
 
--- src/store.rt:59:5
 put-sale-requires : tie.Need-put-sale-requires
 put-sale-requires c κs = search needs
 
--- src/store.rt:60:5
 put-sale-requires-2 : tie.Need-put-sale-requires-2
 put-sale-requires-2 c κs = search needs
 
--- src/store.rt:61:5
 put8-requires : tie.Need-put8-requires
 put8-requires c κs = search needs
 
--- src/store.rt:53:1
 same-length : tie.Need-same-length
 same-length c = search needs
 
--- src/store.rt:53:1
 returns : tie.Need-returns
-returns c = ?
+returns c =
+    let a = c .before .before .before .before .before .before .before .before .before .before .before .before .before .before .before .before .before .before .before .args in
+    rw (c .before .before .put8 .ensures, c .before .before .before .before .before .before .put-sale2 .ensures, c .before .before .before .before .before .before .before .before .before .before .put-sale .ensures, c .before .before .before .before .before .before .before .before .before .before .before .before .before .before .put-head .ensures) (c-stored (a .out .now) (a .r) (long (c .before .before .before .before .before .before .before .before .before .before .before .before .before .before .before .before .before .before .before)))
 
 pub put-c-spec : {M : Type 1} → statement M
 put-c-spec =

@@ -1,3 +1,6 @@
+use Rattle.message.proofs.Stores.{head-stored}
+use lib.ListN.{length}
+use mathlib.Core.Path.{_≡_, refl, ap, sym, _∙_}
 use borrow.Author.Needs.{needs}
 use Rattle.message.proofs.store.put_head.Statement.{statement}
 use Rattle.message.proofs.store.put_head.Tie as tie
@@ -7,37 +10,34 @@ use Rattle.octets.proofs.number.put4.Reads as put4-reads
 use Rattle.octets.proofs.run.paste.Reads as paste-reads
 use Rattle.octets.proofs.run.put_byte.Reads as put-byte-reads
 
--- src/store.rt:36:5
+symbol-long : (c : tie.Start) → length (c .args .r .symbol) ≡ 8
+symbol-long c = search needs
+
 put4-requires : tie.Need-put4-requires
 put4-requires c κs = search needs
 
--- src/store.rt:37:5
 put-byte-requires : tie.Need-put-byte-requires
 put-byte-requires c κs = search needs
 
--- src/store.rt:38:5
 put-byte-requires-2 : tie.Need-put-byte-requires-2
 put-byte-requires-2 c κs = search needs
 
--- src/store.rt:39:19
 slice-aggregate-paste : tie.Need-slice-aggregate-paste
 slice-aggregate-paste c = search needs
 
--- src/store.rt:39:5
 paste-requires : tie.Need-paste-requires
 paste-requires c κs = search needs
 
--- src/store.rt:40:5
 put-byte-requires-3 : tie.Need-put-byte-requires-3
 put-byte-requires-3 c κs = search needs
 
--- src/store.rt:32:1
 same-length : tie.Need-same-length
 same-length c = search needs
 
--- src/store.rt:32:1
 returns : tie.Need-returns
-returns c = ?
+returns c =
+    let a = c .before .before .before .before .before .before .before .before .before .before .before .before .before .before .before .before .before .before .before .before .before .before .before .args in
+    rw (c .before .before .put-byte3 .ensures, c .before .before .before .before .before .before .paste .ensures, c .before .before .before .before .before .before .before .before .before .before .before .put-byte2 .ensures, c .before .before .before .before .before .before .before .before .before .before .before .before .before .before .before .put-byte .ensures, c .before .before .before .before .before .before .before .before .before .before .before .before .before .before .before .before .before .before .before .put4 .ensures) (head-stored (a .out .now) (a .r) (symbol-long (c .before .before .before .before .before .before .before .before .before .before .before .before .before .before .before .before .before .before .before .before .before .before .before)))
 
 pub put-head-spec : {M : Type 1} → statement M
 put-head-spec =

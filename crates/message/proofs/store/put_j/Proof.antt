@@ -1,3 +1,6 @@
+use Rattle.message.proofs.Stores.{j-stored}
+use lib.ListN.{length}
+use mathlib.Core.Path.{_≡_, refl, ap, sym, _∙_}
 use borrow.Author.Needs.{needs}
 use Rattle.message.proofs.store.put_j.Statement.{statement}
 use Rattle.message.proofs.store.put_j.Tie as tie
@@ -9,41 +12,37 @@ use Rattle.octets.proofs.number.put8.Reads as put8-reads
 use Rattle.octets.proofs.run.paste.Reads as paste-reads
 use Rattle.octets.proofs.run.put_byte.Reads as put-byte-reads
 
--- src/store.rt:77:5
+symbol-long : (c : tie.Start) → length (c .args .r .symbol) ≡ 8
+symbol-long c = search needs
+
 put4-requires : tie.Need-put4-requires
 put4-requires c κs = search needs
 
--- src/store.rt:78:5
 put-byte-requires : tie.Need-put-byte-requires
 put-byte-requires c κs = search needs
 
--- src/store.rt:79:19
 slice-aggregate-paste : tie.Need-slice-aggregate-paste
 slice-aggregate-paste c = search needs
 
--- src/store.rt:79:5
 paste-requires : tie.Need-paste-requires
 paste-requires c κs = search needs
 
--- src/store.rt:80:5
 put-byte-requires-2 : tie.Need-put-byte-requires-2
 put-byte-requires-2 c κs = search needs
 
--- src/store.rt:81:5
 put-prices-requires : tie.Need-put-prices-requires
 put-prices-requires c κs = search needs
 
--- src/store.rt:82:5
 put8-requires : tie.Need-put8-requires
 put8-requires c κs = search needs
 
--- src/store.rt:73:1
 same-length : tie.Need-same-length
 same-length c = search needs
 
--- src/store.rt:73:1
 returns : tie.Need-returns
-returns c = ?
+returns c =
+    let a = c .before .before .before .before .before .before .before .before .before .before .before .before .before .before .before .before .before .before .before .before .before .before .before .before .before .before .before .args in
+    rw (c .before .before .put8 .ensures, c .before .before .before .before .before .before .put-prices .ensures, c .before .before .before .before .before .before .before .before .before .before .put-byte2 .ensures, c .before .before .before .before .before .before .before .before .before .before .before .before .before .before .paste .ensures, c .before .before .before .before .before .before .before .before .before .before .before .before .before .before .before .before .before .before .before .put-byte .ensures, c .before .before .before .before .before .before .before .before .before .before .before .before .before .before .before .before .before .before .before .before .before .before .before .put4 .ensures) (j-stored (a .out .now) (a .r) (symbol-long (c .before .before .before .before .before .before .before .before .before .before .before .before .before .before .before .before .before .before .before .before .before .before .before .before .before .before .before)))
 
 pub put-j-spec : {M : Type 1} → statement M
 put-j-spec =

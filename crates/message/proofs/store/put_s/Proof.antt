@@ -1,3 +1,5 @@
+use Rattle.message.proofs.Stores.{s-stored}
+use mathlib.Core.Path.{_≡_, refl, ap, sym, _∙_}
 use borrow.Author.Needs.{needs}
 use Rattle.message.proofs.store.put_s.Statement.{statement}
 use Rattle.message.proofs.store.put_s.Tie as tie
@@ -6,25 +8,22 @@ use Rattle.message.proofs.store.put_s.Lts as lts
 use Rattle.octets.proofs.number.put4.Reads as put4-reads
 use Rattle.octets.proofs.run.put_byte.Reads as put-byte-reads
 
--- src/store.rt:26:5
 put4-requires : tie.Need-put4-requires
 put4-requires c κs = search needs
 
--- src/store.rt:27:5
 put-byte-requires : tie.Need-put-byte-requires
 put-byte-requires c κs = search needs
 
--- src/store.rt:28:5
 put-byte-requires-2 : tie.Need-put-byte-requires-2
 put-byte-requires-2 c κs = search needs
 
--- src/store.rt:23:1
 same-length : tie.Need-same-length
 same-length c = search needs
 
--- src/store.rt:23:1
 returns : tie.Need-returns
-returns c = ?
+returns c =
+    let a = c .before .before .before .before .before .before .before .before .before .before .before .before .before .args in
+    rw (c .before .before .put-byte2 .ensures, c .before .before .before .before .before .before .put-byte .ensures, c .before .before .before .before .before .before .before .before .before .before .put4 .ensures) (s-stored (a .out .now) (a .r))
 
 pub put-s-spec : {M : Type 1} → statement M
 put-s-spec =

@@ -1,3 +1,6 @@
+use Rattle.message.proofs.Stores.{sale-stored}
+use lib.ListN.{length}
+use mathlib.Core.Path.{_≡_, refl, ap, sym, _∙_}
 use borrow.Author.Needs.{needs}
 use Rattle.message.proofs.store.put_sale.Statement.{statement}
 use Rattle.message.proofs.store.put_sale.Tie as tie
@@ -6,49 +9,43 @@ use Rattle.message.proofs.store.put_sale.Lts as lts
 use Rattle.octets.proofs.number.put4.Reads as put4-reads
 use Rattle.octets.proofs.run.paste.Reads as paste-reads
 
--- src/store.rt:17:20
+control-long : (c : tie.Start) → length (c .args .s .control) ≡ 10
+control-long c = search needs
+
 slice-aggregate-paste : tie.Need-slice-aggregate-paste
 slice-aggregate-paste c = search needs
 
--- src/store.rt:17:5
 paste-requires : tie.Need-paste-requires
 paste-requires c κs = search needs
 
--- src/store.rt:18:15
 add-put4 : tie.Need-add-put4
 add-put4 c = search needs
 
--- src/store.rt:18:5
 put4-requires : tie.Need-put4-requires
 put4-requires c κs = search needs
 
--- src/store.rt:19:15
 add-put4-2 : tie.Need-add-put4-2
 add-put4-2 c = search needs
 
--- src/store.rt:19:5
 put4-requires-2 : tie.Need-put4-requires-2
 put4-requires-2 c κs = search needs
 
--- src/store.rt:20:16
 add-paste : tie.Need-add-paste
 add-paste c = search needs
 
--- src/store.rt:20:25
 slice-aggregate-paste-2 : tie.Need-slice-aggregate-paste-2
 slice-aggregate-paste-2 c = search needs
 
--- src/store.rt:20:5
 paste-requires-2 : tie.Need-paste-requires-2
 paste-requires-2 c κs = search needs
 
--- src/store.rt:11:1
 same-length : tie.Need-same-length
 same-length c = search needs
 
--- src/store.rt:11:1
 returns : tie.Need-returns
-returns c = ?
+returns c =
+    let a = c .before .before .before .before .before .before .before .before .before .before .before .before .before .before .before .before .before .before .before .before .before .args in
+    rw (c .before .before .paste2 .ensures, c .before .before .before .before .before .before .before .put42 .ensures, c .before .before .before .before .before .before .before .before .before .before .before .put4 .ensures, c .before .before .before .before .before .before .before .before .before .before .before .before .before .before .before .paste .ensures) (sale-stored (a .out .now) (a .at) (a .s) (control-long (c .before .before .before .before .before .before .before .before .before .before .before .before .before .before .before .before .before .before .before .before .before)))
 
 pub put-sale-spec : {M : Type 1} → statement M
 put-sale-spec =

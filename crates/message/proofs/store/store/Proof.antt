@@ -1,3 +1,6 @@
+use borrow.Author.Tests.{ne-eqb, eq-eqb}
+use Rattle.message.specs.Writing as W
+use mathlib.Core.Path.{_≡_, refl, ap, sym, _∙_}
 use borrow.Author.Needs.{needs}
 use Rattle.message.proofs.store.store.Statement.{statement}
 use Rattle.message.proofs.store.store.Tie as tie
@@ -8,53 +11,45 @@ use Rattle.message.proofs.store.put_j.Reads as put-j-reads
 use Rattle.message.proofs.store.put_s.Reads as put-s-reads
 use Rattle.message.proofs.store.put_t.Reads as put-t-reads
 
--- src/store.rt:91:9
 put-s-requires : tie.Need-put-s-requires
 put-s-requires c κs = search needs
 
--- src/store.rt:92:9
 same-length : tie.Need-same-length
 same-length c = search needs
 
--- src/store.rt:92:9
 returns : tie.Need-returns
-returns c = ?
+unfolding W.bytesOf
+returns c = simp (eq-eqb _ _ (c .before .before .before .before .if1 .taken)) (c .before .before .put-s .ensures)
 
--- src/store.rt:95:9
 put-c-requires : tie.Need-put-c-requires
 put-c-requires c κs = search needs
 
--- src/store.rt:96:9
 same-length-2 : tie.Need-same-length-2
 same-length-2 c = search needs
 
--- src/store.rt:96:9
 returns-2 : tie.Need-returns-2
-returns-2 c = ?
+unfolding W.bytesOf
+returns-2 c = simp (ne-eqb _ _ (c .before .before .before .before .before .if1 .left), eq-eqb _ _ (c .before .before .before .before .if2 .taken)) (c .before .before .put-c .ensures)
 
--- src/store.rt:99:9
 put-j-requires : tie.Need-put-j-requires
 put-j-requires c κs = search needs
 
--- src/store.rt:100:9
 same-length-3 : tie.Need-same-length-3
 same-length-3 c = search needs
 
--- src/store.rt:100:9
 returns-3 : tie.Need-returns-3
-returns-3 c = ?
+unfolding W.bytesOf
+returns-3 c = simp (ne-eqb _ _ (c .before .before .before .before .before .before .if1 .left), ne-eqb _ _ (c .before .before .before .before .before .if2 .left), eq-eqb _ _ (c .before .before .before .before .if3 .taken)) (c .before .before .put-j .ensures)
 
--- src/store.rt:102:5
 put-t-requires : tie.Need-put-t-requires
 put-t-requires c κs = search needs
 
--- src/store.rt:86:1
 same-length-4 : tie.Need-same-length-4
 same-length-4 c = search needs
 
--- src/store.rt:86:1
 returns-4 : tie.Need-returns-4
-returns-4 c = ?
+unfolding W.bytesOf
+returns-4 c = simp (ne-eqb _ _ (c .before .before .before .before .before .before .if1 .left), ne-eqb _ _ (c .before .before .before .before .before .if2 .left), ne-eqb _ _ (c .before .before .before .before .if3 .left)) (c .before .before .put-t .ensures)
 
 pub store-spec : {M : Type 1} → statement M
 store-spec =

@@ -1,0 +1,39 @@
+-- What the writer says and leaves, by its two tests: the rules of the record, and the room.
+-- Assumes nothing.
+use mathlib.Core.Path.{_≡_, refl, sym, _∙_}
+use mathlib.Core.Bool.{Bool, true, false, _&&_, and-eq-true-iff}
+use mathlib.Core.List.{List}
+use Prim.Native.Nat.{ℕ, _≤_}
+use native.Mathlib.Omega.{arith}
+use borrow.Author.Tests.{leb-true}
+use lib.Dec.{leb}
+use lib.ListN.{length}
+use lib.Seq.{sets}
+use Rattle.octets.proofs.Laws.{sets-front}
+use Rattle.message.specs.declared.Record.{Record}
+use Rattle.message.specs.declared.answer.Answer.the-variants.{Done, FieldBroken, NoSpace}
+use Rattle.message.specs.Reading.{lengthOf, lawfulOf}
+use Rattle.message.specs.Writing.{bytesOf, writeAnswer, writeOut}
+use Rattle.message.proofs.Stores.{Long, bytes-length}
+
+module _ (r : Record) (out : List ℕ) where
+  abbrev pub room : Bool
+  room = leb (lengthOf (r .kind)) (length out)
+
+  pub written-done : Long r → lawfulOf r && room ≡ true → (Done ≡ writeAnswer r out) × (sets out 0 (bytesOf r) ≡ writeOut r out)
+  unfolding writeAnswer writeOut
+  written-done g e =
+      let p = and-eq-true-iff (lawfulOf r) room .0 e in
+      let h : lengthOf (r .kind) ≤ length out = leb-true _ _ (p .1) in
+      let l : length (bytesOf r) ≡ lengthOf (r .kind) = bytes-length r g (p .0) in
+      (simp (p .0, p .1), simp (p .0, p .1) (sets-front (bytesOf r) out (omega arith)))
+
+  pub written-short : lawfulOf r && room ≡ false → lawfulOf r ≡ true → (NoSpace ≡ writeAnswer r out) × (out ≡ writeOut r out)
+  unfolding writeAnswer writeOut
+  written-short e o =
+      let n : room ≡ false = rw o at e in
+      (simp (o, n), simp (o, n))
+
+  pub written-broken : lawfulOf r ≡ false → (FieldBroken ≡ writeAnswer r out) × (out ≡ writeOut r out)
+  unfolding writeAnswer writeOut
+  written-broken o = (simp o, simp o)
