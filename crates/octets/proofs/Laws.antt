@@ -63,7 +63,7 @@ past-end m k h = sym (List·getD-eq-default m 0 h)
 
 -- ---- numbers
 
-after-snoc : (x : ℕ) (bs : List ℕ) (b : ℕ) → beAfter x (bs ++ (b ∷ [])) ≡ beAfter x bs * 256 + b
+pub after-snoc : (x : ℕ) (bs : List ℕ) (b : ℕ) → beAfter x (bs ++ (b ∷ [])) ≡ beAfter x bs * 256 + b
 after-snoc x [] b = refl
 after-snoc x (a ∷ bs) b = after-snoc (x * 256 + a) bs b
 
