@@ -7,7 +7,7 @@ use native.Mathlib.Omega.{arith}
 use borrow.Author.Tests.{eqb-true}
 use lib.Dec.{eqb}
 use Rattle.message.specs.declared.Record.{Record}
-use Rattle.message.specs.Reading.{lengthOf, lawfulOf, lawfulTrade, saleNone}
+use Rattle.message.specs.Reading.{lengthOf, lawfulOf, lawfulT}
 
 -- S, C, J or none of them, by the tests that reader and writer make
 pub data Which (k : ℕ) : Type 0 where
@@ -68,11 +68,11 @@ chosen : (b x : Bool) → cond b x false ≡ true → (b ≡ true) × (x ≡ tru
 chosen true x e = (refl, e)
 chosen false x e = let w : _≡_ {A = ℕ} 0 1 = cc in absurd (omega arith)
 
--- a lawful record that is none of S, C and J is T or X, and has no second trade
+-- a lawful record that is none of S, C and J is T or X
 pub lawful-T : (r : Record) → lawfulOf r ≡ true → eqb (r .kind) 83 ≡ false → eqb (r .kind) 67 ≡ false → eqb (r .kind) 74 ≡ false
-    → (lengthOf (r .kind) ≡ 45) × ((lawfulTrade r && saleNone (r .new)) ≡ true)
+    → (lengthOf (r .kind) ≡ 45) × (lawfulT r ≡ true)
 unfolding lawfulOf
 lawful-T r o s c j =
-    let f : cond (eqb (r .kind) 84 || eqb (r .kind) 88) (lawfulTrade r && saleNone (r .new)) false ≡ true = simp (s, c, j) at o in
-    let p = chosen (eqb (r .kind) 84 || eqb (r .kind) 88) (lawfulTrade r && saleNone (r .new)) f in
+    let f : cond (eqb (r .kind) 84 || eqb (r .kind) 88) (lawfulT r) false ≡ true = simp (s, c, j) at o in
+    let p = chosen (eqb (r .kind) 84 || eqb (r .kind) 88) (lawfulT r) f in
     (trade-or (r .kind) s c j (p .0), p .1)

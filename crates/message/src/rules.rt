@@ -59,6 +59,23 @@ fn sale_none(s: Sale) -> bool
     is_all(&control, 0, 0) & (s.price == 0) & (s.size == 0) & is_all(&condition, 0, 0)
 }
 
+// Whether J's three prices are zero.
+fn prices_none(r: Record) -> bool
+    ensures { λ b. ⌜ b ≡ R.pricesNone r ⌝ }
+{
+    (r.high == 0) & (r.low == 0) & (r.close == 0)
+}
+
+// The rules of the fields that T, X and C have in common.
+fn trade_ok(r: Record) -> bool
+    ensures { λ b. ⌜ b ≡ R.tradeOk r ⌝ }
+{
+    let symbol = r.symbol;
+    let sale = r.sale;
+    time_ok(r.time) & centre_ok(r.centre) & is_text(&symbol) & class_ok(r.class) & sale_ok(sale)
+}
+
+// Each type's rules, and then the fields that it lacks.
 fn lawful_s(r: Record) -> bool
     ensures { λ b. ⌜ b ≡ R.lawfulS r ⌝ }
 {
@@ -72,27 +89,23 @@ fn lawful_s(r: Record) -> bool
         & (r.class == 0)
         & sale_none(sale)
         & sale_none(new)
-        & (r.high == 0)
-        & (r.low == 0)
-        & (r.close == 0)
+        & prices_none(r)
         & (r.consolidated == 0)
 }
 
-// What T, X and C have in common.
-fn lawful_trade(r: Record) -> bool
-    ensures { λ b. ⌜ b ≡ R.lawfulTrade r ⌝ }
+// T and X.
+fn lawful_t(r: Record) -> bool
+    ensures { λ b. ⌜ b ≡ R.lawfulT r ⌝ }
 {
-    let symbol = r.symbol;
-    let sale = r.sale;
-    time_ok(r.time)
-        & (r.event == 0)
-        & centre_ok(r.centre)
-        & is_text(&symbol)
-        & class_ok(r.class)
-        & sale_ok(sale)
-        & (r.high == 0)
-        & (r.low == 0)
-        & (r.close == 0)
+    let new = r.new;
+    trade_ok(r) & (r.event == 0) & sale_none(new) & prices_none(r)
+}
+
+fn lawful_c(r: Record) -> bool
+    ensures { λ b. ⌜ b ≡ R.lawfulC r ⌝ }
+{
+    let new = r.new;
+    trade_ok(r) & sale_ok(new) & (r.event == 0) & prices_none(r)
 }
 
 fn lawful_j(r: Record) -> bool
@@ -102,15 +115,15 @@ fn lawful_j(r: Record) -> bool
     let sale = r.sale;
     let new = r.new;
     time_ok(r.time)
-        & (r.event == 0)
-        & (r.centre == 0)
         & is_text(&symbol)
         & class_ok(r.class)
-        & sale_none(sale)
-        & sale_none(new)
         & summary_price_ok(r.high)
         & summary_price_ok(r.low)
         & summary_price_ok(r.close)
+        & (r.event == 0)
+        & (r.centre == 0)
+        & sale_none(sale)
+        & sale_none(new)
 }
 
 // Whether a record keeps every rule of its type and has nothing in a field that the type lacks.
@@ -118,18 +131,17 @@ pub fn lawful(r: Record) -> bool
     ensures { λ b. ⌜ b ≡ R.lawfulOf r ⌝ }
 {
     let kind = r.kind;
-    let new = r.new;
     if kind == b'S' {
         return lawful_s(r);
     }
     if kind == b'C' {
-        return lawful_trade(r) & sale_ok(new);
+        return lawful_c(r);
     }
     if kind == b'J' {
         return lawful_j(r);
     }
     if (kind == b'T') | (kind == b'X') {
-        return lawful_trade(r) & sale_none(new);
+        return lawful_t(r);
     }
     false
 }

@@ -1,3 +1,4 @@
+use Rattle.message.proofs.Stores.{Long, sale-length}
 use Rattle.message.proofs.Written.{written-done, written-short, written-broken}
 use Rattle.message.proofs.Stores.{Long, sale-length}
 use mathlib.Core.Path.{_≡_, refl, ap, sym, _∙_}

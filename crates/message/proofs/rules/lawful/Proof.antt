@@ -6,11 +6,10 @@ use Rattle.message.proofs.rules.lawful.Statement.{statement}
 use Rattle.message.proofs.rules.lawful.Tie as tie
 use Rattle.message.proofs.rules.lawful.Reads as reads
 use Rattle.message.proofs.rules.lawful.Lts as lts
+use Rattle.message.proofs.rules.lawful_c.Reads as lawful-c-reads
 use Rattle.message.proofs.rules.lawful_j.Reads as lawful-j-reads
 use Rattle.message.proofs.rules.lawful_s.Reads as lawful-s-reads
-use Rattle.message.proofs.rules.lawful_trade.Reads as lawful-trade-reads
-use Rattle.message.proofs.rules.sale_none.Reads as sale-none-reads
-use Rattle.message.proofs.rules.sale_ok.Reads as sale-ok-reads
+use Rattle.message.proofs.rules.lawful_t.Reads as lawful-t-reads
 
 lawful-s-requires : tie.Need-lawful-s-requires
 lawful-s-requires c κs = search needs
@@ -19,15 +18,12 @@ returns : tie.Need-returns
 unfolding R.lawfulOf
 returns c = simp (eq-eqb _ _ (c .before .if1 .taken)) (c .lawful-s .ensures)
 
-lawful-trade-requires : tie.Need-lawful-trade-requires
-lawful-trade-requires c κs = search needs
-
-sale-ok-requires : tie.Need-sale-ok-requires
-sale-ok-requires c κs = search needs
+lawful-c-requires : tie.Need-lawful-c-requires
+lawful-c-requires c κs = search needs
 
 returns-2 : tie.Need-returns-2
 unfolding R.lawfulOf
-returns-2 c = simp (ne-eqb _ _ (c .before .before .before .if1 .left), eq-eqb _ _ (c .before .before .if2 .taken), c .before .lawful-trade .ensures, c .sale-ok .ensures)
+returns-2 c = simp (ne-eqb _ _ (c .before .before .if1 .left), eq-eqb _ _ (c .before .if2 .taken)) (c .lawful-c .ensures)
 
 lawful-j-requires : tie.Need-lawful-j-requires
 lawful-j-requires c κs = search needs
@@ -36,15 +32,12 @@ returns-3 : tie.Need-returns-3
 unfolding R.lawfulOf
 returns-3 c = simp (ne-eqb _ _ (c .before .before .before .if1 .left), ne-eqb _ _ (c .before .before .if2 .left), eq-eqb _ _ (c .before .if3 .taken)) (c .lawful-j .ensures)
 
-lawful-trade-requires-2 : tie.Need-lawful-trade-requires-2
-lawful-trade-requires-2 c κs = search needs
-
-sale-none-requires : tie.Need-sale-none-requires
-sale-none-requires c κs = search needs
+lawful-t-requires : tie.Need-lawful-t-requires
+lawful-t-requires c κs = search needs
 
 returns-4 : tie.Need-returns-4
 unfolding R.lawfulOf
-returns-4 c = simp (ne-eqb _ _ (c .before .before .before .before .before .if1 .left), ne-eqb _ _ (c .before .before .before .before .if2 .left), ne-eqb _ _ (c .before .before .before .if3 .left), c .before .before .if4 .taken, c .before .lawful-trade2 .ensures, c .sale-none .ensures)
+returns-4 c = simp (ne-eqb _ _ (c .before .before .before .before .if1 .left), ne-eqb _ _ (c .before .before .before .if2 .left), ne-eqb _ _ (c .before .before .if3 .left), c .before .if4 .taken) (c .lawful-t .ensures)
 
 returns-5 : tie.Need-returns-5
 unfolding R.lawfulOf
@@ -56,12 +49,10 @@ lawful-spec =
     (tie.spec
     lawful-s-requires
     returns
-    lawful-trade-requires
-    sale-ok-requires
+    lawful-c-requires
     returns-2
     lawful-j-requires
     returns-3
-    lawful-trade-requires-2
-    sale-none-requires
+    lawful-t-requires
     returns-4
     returns-5)

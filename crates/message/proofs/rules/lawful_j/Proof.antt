@@ -22,12 +22,6 @@ is-text-requires c κs = search needs
 class-ok-requires : tie.Need-class-ok-requires
 class-ok-requires c κs = search needs
 
-sale-none-requires : tie.Need-sale-none-requires
-sale-none-requires c κs = search needs
-
-sale-none-requires-2 : tie.Need-sale-none-requires-2
-sale-none-requires-2 c κs = search needs
-
 summary-price-ok-requires : tie.Need-summary-price-ok-requires
 summary-price-ok-requires c κs = search needs
 
@@ -36,6 +30,12 @@ summary-price-ok-requires-2 c κs = search needs
 
 summary-price-ok-requires-3 : tie.Need-summary-price-ok-requires-3
 summary-price-ok-requires-3 c κs = search needs
+
+sale-none-requires : tie.Need-sale-none-requires
+sale-none-requires c κs = search needs
+
+sale-none-requires-2 : tie.Need-sale-none-requires-2
+sale-none-requires-2 c κs = search needs
 
 returns : tie.Need-returns
 unfolding R.lawfulJ
@@ -49,9 +49,9 @@ lawful-j-spec =
     slice-aggregate-is-text
     is-text-requires
     class-ok-requires
-    sale-none-requires
-    sale-none-requires-2
     summary-price-ok-requires
     summary-price-ok-requires-2
     summary-price-ok-requires-3
+    sale-none-requires
+    sale-none-requires-2
     returns)

@@ -5,6 +5,7 @@ use Rattle.message.proofs.rules.lawful_s.Tie as tie
 use Rattle.message.proofs.rules.lawful_s.Reads as reads
 use Rattle.message.proofs.rules.lawful_s.Lts as lts
 use Rattle.message.proofs.rules.event_ok.Reads as event-ok-reads
+use Rattle.message.proofs.rules.prices_none.Reads as prices-none-reads
 use Rattle.message.proofs.rules.sale_none.Reads as sale-none-reads
 use Rattle.message.proofs.rules.time_ok.Reads as time-ok-reads
 use Rattle.octets.proofs.text.is_all.Reads as is-all-reads
@@ -27,6 +28,9 @@ sale-none-requires c κs = search needs
 sale-none-requires-2 : tie.Need-sale-none-requires-2
 sale-none-requires-2 c κs = search needs
 
+prices-none-requires : tie.Need-prices-none-requires
+prices-none-requires c κs = search needs
+
 returns : tie.Need-returns
 unfolding R.lawfulS
 returns c = cc
@@ -41,4 +45,5 @@ lawful-s-spec =
     is-all-requires
     sale-none-requires
     sale-none-requires-2
+    prices-none-requires
     returns)

@@ -1,9 +1,9 @@
 use Rattle.message.specs.Reading as R
 use borrow.Author.Needs.{needs}
-use Rattle.message.proofs.rules.lawful_trade.Statement.{statement}
-use Rattle.message.proofs.rules.lawful_trade.Tie as tie
-use Rattle.message.proofs.rules.lawful_trade.Reads as reads
-use Rattle.message.proofs.rules.lawful_trade.Lts as lts
+use Rattle.message.proofs.rules.trade_ok.Statement.{statement}
+use Rattle.message.proofs.rules.trade_ok.Tie as tie
+use Rattle.message.proofs.rules.trade_ok.Reads as reads
+use Rattle.message.proofs.rules.trade_ok.Lts as lts
 use Rattle.message.proofs.rules.centre_ok.Reads as centre-ok-reads
 use Rattle.message.proofs.rules.class_ok.Reads as class-ok-reads
 use Rattle.message.proofs.rules.sale_ok.Reads as sale-ok-reads
@@ -29,11 +29,11 @@ sale-ok-requires : tie.Need-sale-ok-requires
 sale-ok-requires c κs = search needs
 
 returns : tie.Need-returns
-unfolding R.lawfulTrade
+unfolding R.tradeOk
 returns c = cc
 
-pub lawful-trade-spec : {M : Type 1} → statement M
-lawful-trade-spec =
+pub trade-ok-spec : {M : Type 1} → statement M
+trade-ok-spec =
     tie.close
     (tie.spec
     time-ok-requires

@@ -1,0 +1,26 @@
+use Rattle.message.specs.Reading as R
+use borrow.Author.Needs.{needs}
+use Rattle.message.proofs.rules.lawful_c.Statement.{statement}
+use Rattle.message.proofs.rules.lawful_c.Tie as tie
+use Rattle.message.proofs.rules.lawful_c.Reads as reads
+use Rattle.message.proofs.rules.lawful_c.Lts as lts
+use Rattle.message.proofs.rules.prices_none.Reads as prices-none-reads
+use Rattle.message.proofs.rules.sale_ok.Reads as sale-ok-reads
+use Rattle.message.proofs.rules.trade_ok.Reads as trade-ok-reads
+
+trade-ok-requires : tie.Need-trade-ok-requires
+trade-ok-requires c κs = search needs
+
+sale-ok-requires : tie.Need-sale-ok-requires
+sale-ok-requires c κs = search needs
+
+prices-none-requires : tie.Need-prices-none-requires
+prices-none-requires c κs = search needs
+
+returns : tie.Need-returns
+unfolding R.lawfulC
+returns c = cc
+
+pub lawful-c-spec : {M : Type 1} → statement M
+lawful-c-spec =
+    tie.close (tie.spec trade-ok-requires sale-ok-requires prices-none-requires returns)

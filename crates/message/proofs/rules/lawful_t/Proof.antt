@@ -1,0 +1,26 @@
+use Rattle.message.specs.Reading as R
+use borrow.Author.Needs.{needs}
+use Rattle.message.proofs.rules.lawful_t.Statement.{statement}
+use Rattle.message.proofs.rules.lawful_t.Tie as tie
+use Rattle.message.proofs.rules.lawful_t.Reads as reads
+use Rattle.message.proofs.rules.lawful_t.Lts as lts
+use Rattle.message.proofs.rules.prices_none.Reads as prices-none-reads
+use Rattle.message.proofs.rules.sale_none.Reads as sale-none-reads
+use Rattle.message.proofs.rules.trade_ok.Reads as trade-ok-reads
+
+trade-ok-requires : tie.Need-trade-ok-requires
+trade-ok-requires c κs = search needs
+
+sale-none-requires : tie.Need-sale-none-requires
+sale-none-requires c κs = search needs
+
+prices-none-requires : tie.Need-prices-none-requires
+prices-none-requires c κs = search needs
+
+returns : tie.Need-returns
+unfolding R.lawfulT
+returns c = cc
+
+pub lawful-t-spec : {M : Type 1} → statement M
+lawful-t-spec =
+    tie.close (tie.spec trade-ok-requires sale-none-requires prices-none-requires returns)
