@@ -1,78 +1,111 @@
--- The five letters: which of the four shapes a letter has, and the length that goes with it.
+-- The letter of a message: one of the five, or none; and what reader and writer choose by it.
 -- Assumes nothing.
-use mathlib.Core.Path.{_≡_, refl, _∙_}
-use mathlib.Core.Bool.{Bool, true, false, cond, _||_, _&&_}
-use Prim.Native.Nat.{ℕ, _<_}
+use mathlib.Core.Path.{_≡_, refl, ap, _∙_}
+use mathlib.Core.Bool.{Bool, true, false, cond, _||_}
+use Prim.Native.Nat.{ℕ}
 use native.Mathlib.Omega.{arith}
 use borrow.Author.Tests.{eqb-true}
 use lib.Dec.{eqb}
 use Rattle.message.specs.declared.Record.{Record}
-use Rattle.message.specs.Reading.{lengthOf, lawfulOf, lawfulT}
+use Rattle.message.specs.Layouts.{Kind, S, T, X, C, J, letter, longOf}
+use Rattle.message.specs.Reading.{lengthOf, lawfulS, lawfulT, lawfulC, lawfulJ, lawfulOf}
 
--- S, C, J or none of them, by the tests that reader and writer make
 pub data Which (k : ℕ) : Type 0 where
-  isS : eqb k 83 ≡ true → Which k
-  isC : eqb k 83 ≡ false → eqb k 67 ≡ true → Which k
-  isJ : eqb k 83 ≡ false → eqb k 67 ≡ false → eqb k 74 ≡ true → Which k
-  isT : eqb k 83 ≡ false → eqb k 67 ≡ false → eqb k 74 ≡ false → Which k
+  typed : (t : Kind) → k ≡ letter t → Which k
+  none : eqb k 83 ≡ false → eqb k 84 ≡ false → eqb k 88 ≡ false → eqb k 67 ≡ false → eqb k 74 ≡ false → Which k
 
 pub which : (k : ℕ) → Which k
 which k = at-s (eqb k 83) refl
   where
-    at-j : (b : Bool) → eqb k 83 ≡ false → eqb k 67 ≡ false → eqb k 74 ≡ b → Which k
-    at-j true s c e = isJ s c e
-    at-j false s c e = isT s c e
+    at-j : (b : Bool) → eqb k 83 ≡ false → eqb k 84 ≡ false → eqb k 88 ≡ false → eqb k 67 ≡ false → eqb k 74 ≡ b → Which k
+    at-j true s t x c e = typed J (eqb-true _ _ e)
+    at-j false s t x c e = none s t x c e
 
-    at-c : (b : Bool) → eqb k 83 ≡ false → eqb k 67 ≡ b → Which k
-    at-c true s e = isC s e
-    at-c false s e = at-j (eqb k 74) s e refl
+    at-c : (b : Bool) → eqb k 83 ≡ false → eqb k 84 ≡ false → eqb k 88 ≡ false → eqb k 67 ≡ b → Which k
+    at-c true s t x e = typed C (eqb-true _ _ e)
+    at-c false s t x e = at-j (eqb k 74) s t x e refl
+
+    at-x : (b : Bool) → eqb k 83 ≡ false → eqb k 84 ≡ false → eqb k 88 ≡ b → Which k
+    at-x true s t e = typed X (eqb-true _ _ e)
+    at-x false s t e = at-c (eqb k 67) s t e refl
+
+    at-t : (b : Bool) → eqb k 83 ≡ false → eqb k 84 ≡ b → Which k
+    at-t true s e = typed T (eqb-true _ _ e)
+    at-t false s e = at-x (eqb k 88) s e refl
 
     at-s : (b : Bool) → eqb k 83 ≡ b → Which k
-    at-s true e = isS e
-    at-s false e = at-c (eqb k 67) e refl
+    at-s true e = typed S (eqb-true _ _ e)
+    at-s false e = at-t (eqb k 84) e refl
 
-pub length-S : (k : ℕ) → eqb k 83 ≡ true → lengthOf k ≡ 6
-unfolding lengthOf
-length-S k e = simp e
+-- ---- what is chosen by the letter: one thing for S, one for T and X, one for C, one for J
 
-pub length-C : (k : ℕ) → eqb k 67 ≡ true → lengthOf k ≡ 67
-unfolding lengthOf
-length-C k e = rw (eqb-true k 67 e)
+abbrev pub byKind : {A : Type 0} → Kind → A → A → A → A → A
+byKind S s t c j = s
+byKind T s t c j = t
+byKind X s t c j = t
+byKind C s t c j = c
+byKind J s t c j = j
 
-pub length-J : (k : ℕ) → eqb k 74 ≡ true → lengthOf k ≡ 34
-unfolding lengthOf
-length-J k e = rw (eqb-true k 74 e)
-
-some : (b d : Bool) → (_≡_ {A = ℕ} (cond b 45 (cond d 45 0)) 0 → ⊥) → _≡_ {A = ℕ} (cond b 45 (cond d 45 0)) 45
-some true d h = refl
-some false true h = refl
-some false false h = absurd (h refl)
-
--- a letter that has a length and is none of S, C and J has T's
-pub length-T : (k : ℕ) → eqb k 83 ≡ false → eqb k 67 ≡ false → eqb k 74 ≡ false → (lengthOf k ≡ 0 → ⊥) → lengthOf k ≡ 45
-unfolding lengthOf
-length-T k s c j h =
-    let e : lengthOf k ≡ cond (eqb k 84) 45 (cond (eqb k 88) 45 0) = simp (s, c, j) in
-    e ∙ some (eqb k 84) (eqb k 88) (λ z. h (e ∙ z))
-
-trade-or : (k : ℕ) → eqb k 83 ≡ false → eqb k 67 ≡ false → eqb k 74 ≡ false → (eqb k 84 || eqb k 88) ≡ true → lengthOf k ≡ 45
-unfolding lengthOf
-trade-or k s c j h = simp (s, c, j) (go (eqb k 84) (eqb k 88) h)
+pub chosen-by : {A : Type 0} (x : ℕ) (k : Kind) → x ≡ letter k → (s t c j : A)
+    → cond (eqb x 83) s (cond (eqb x 67) c (cond (eqb x 74) j t)) ≡ byKind k s t c j
+chosen-by x k e s t c j = rw e (at-letter k)
   where
-    go : (b d : Bool) → (b || d) ≡ true → _≡_ {A = ℕ} (cond b 45 (cond d 45 0)) 45
-    go true d e = refl
-    go false true e = refl
-    go false false e = let w : _≡_ {A = ℕ} 0 1 = cc in absurd (omega arith)
+    at-letter : (k : Kind) → cond (eqb (letter k) 83) s (cond (eqb (letter k) 67) c (cond (eqb (letter k) 74) j t)) ≡ byKind k s t c j
+    at-letter S = refl
+    at-letter T = refl
+    at-letter X = refl
+    at-letter C = refl
+    at-letter J = refl
 
-chosen : (b x : Bool) → cond b x false ≡ true → (b ≡ true) × (x ≡ true)
-chosen true x e = (refl, e)
-chosen false x e = let w : _≡_ {A = ℕ} 0 1 = cc in absurd (omega arith)
+-- ---- the length that goes with a letter
 
--- a lawful record that is none of S, C and J is T or X
-pub lawful-T : (r : Record) → lawfulOf r ≡ true → eqb (r .kind) 83 ≡ false → eqb (r .kind) 67 ≡ false → eqb (r .kind) 74 ≡ false
-    → (lengthOf (r .kind) ≡ 45) × (lawfulT r ≡ true)
+pub long-letter : (k : Kind) → lengthOf (letter k) ≡ longOf k
+unfolding lengthOf
+long-letter S = refl
+long-letter T = refl
+long-letter X = refl
+long-letter C = refl
+long-letter J = refl
+
+pub long-some : (k : Kind) → longOf k ≡ 0 → ⊥
+long-some S z = omega arith
+long-some T z = omega arith
+long-some X z = omega arith
+long-some C z = omega arith
+long-some J z = omega arith
+
+-- a letter that has a length is of a type
+pub typed-by : (k : ℕ) → (lengthOf k ≡ 0 → ⊥) → (t : Kind) × (k ≡ letter t)
+unfolding lengthOf
+typed-by k h = go (which k)
+  where
+    go : Which k → (t : Kind) × (k ≡ letter t)
+    go (typed t e) = (t, e)
+    go (none s t x c j) = absurd (h (simp (s, t, x, c, j)))
+
+-- ---- the rules that go with a letter
+
+pub lawful-by : (r : Record) (k : Kind) → r .kind ≡ letter k → lawfulOf r ≡ byKind k (lawfulS r) (lawfulT r) (lawfulC r) (lawfulJ r)
 unfolding lawfulOf
-lawful-T r o s c j =
-    let f : cond (eqb (r .kind) 84 || eqb (r .kind) 88) (lawfulT r) false ≡ true = simp (s, c, j) at o in
-    let p = chosen (eqb (r .kind) 84 || eqb (r .kind) 88) (lawfulT r) f in
-    (trade-or (r .kind) s c j (p .0), p .1)
+lawful-by r k e = chosen-by (r .kind) k e (lawfulS r) (cond (eqb (r .kind) 84 || eqb (r .kind) 88) (lawfulT r) false) (lawfulC r) (lawfulJ r) ∙ trade k e
+  where
+    trade : (k : Kind) → r .kind ≡ letter k
+        → byKind k (lawfulS r) (cond (eqb (r .kind) 84 || eqb (r .kind) 88) (lawfulT r) false) (lawfulC r) (lawfulJ r)
+        ≡ byKind k (lawfulS r) (lawfulT r) (lawfulC r) (lawfulJ r)
+    trade S e = refl
+    trade T e = ap (λ (x : ℕ). cond (eqb x 84 || eqb x 88) (lawfulT r) false) e
+    trade X e = ap (λ (x : ℕ). cond (eqb x 84 || eqb x 88) (lawfulT r) false) e
+    trade C e = refl
+    trade J e = refl
+
+-- a record that passes has the letter of a type
+pub lawful-typed : (r : Record) → lawfulOf r ≡ true → (k : Kind) × (r .kind ≡ letter k)
+unfolding lawfulOf
+lawful-typed r o = go (which (r .kind))
+  where
+    go : Which (r .kind) → (k : Kind) × (r .kind ≡ letter k)
+    go (typed k e) = (k, e)
+    go (none s t x c j) =
+        let f : false ≡ true = simp (s, t, x, c, j) at o in
+        let z : _≡_ {A = ℕ} 0 1 = cc in
+        absurd (omega arith)

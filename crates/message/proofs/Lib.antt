@@ -1,3 +1,5 @@
 pub mod Letters
 pub mod Stores
 pub mod Written
+pub mod Lawful
+pub mod Exactly

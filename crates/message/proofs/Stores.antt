@@ -1,11 +1,10 @@
 -- The stores of each writer, one after the other, are one run: the bytes of that type; and how long each run is.
 -- Assumes nothing.
 use mathlib.Core.Path.{_≡_, refl, ap, sym, _∙_}
-use mathlib.Core.Bool.{true, false}
+use mathlib.Core.Bool.{true}
 use mathlib.Core.List.{List, [], _∷_, _++_, append-assoc}
 use Prim.Native.Nat.{ℕ, _+_}
 use native.Mathlib.Omega.{arith}
-use lib.Dec.{eqb}
 use lib.ListN.{length, set, length-append}
 use lib.Seq.{sets}
 use Rattle.octets.specs.Number.{digits}
@@ -15,7 +14,8 @@ use Rattle.message.specs.declared.Record.{Record}
 use Rattle.message.specs.Fits.{SaleFits, RecordFits}
 use Rattle.message.specs.Reading.{lengthOf, lawfulOf}
 use Rattle.message.specs.Writing.{saleBytes, headBytes, priceBytes, bytesS, bytesT, bytesC, bytesJ, bytesOf}
-use Rattle.message.proofs.Letters.{Which, isS, isC, isJ, isT, which, length-S, length-C, length-J, lawful-T}
+use Rattle.message.specs.Layouts.{Kind, S, T, X, C, J, letter, longOf}
+use Rattle.message.proofs.Letters.{byKind, chosen-by, long-letter, lawful-typed}
 
 -- ---- lengths
 
@@ -118,7 +118,14 @@ module _ (l : List ℕ) (r : Record) where
       ∙ sets-then (r .symbol) (r .class ∷ (priceBytes r ++ d)) b 5 13 (rw e)
       ∙ sets-then t (r .kind ∷ (r .symbol ++ (r .class ∷ (priceBytes r ++ d)))) l 0 4 (omega (arith, digits-length 4 (r .time)))
 
--- ---- the length of what is written is the type's
+-- ---- what is written is the type's, and so is its length
+
+abbrev pub bytesAs : Record → Kind → List ℕ
+bytesAs r k = byKind k (bytesS r) (bytesT r) (bytesC r) (bytesJ r)
+
+pub bytes-as : (r : Record) (k : Kind) → r .kind ≡ letter k → bytesOf r ≡ bytesAs r k
+unfolding bytesOf
+bytes-as r k e = chosen-by (r .kind) k e (bytesS r) (bytesT r) (bytesC r) (bytesJ r)
 
 module _ (r : Record) (g : Long r) where
   s-length : length (bytesS r) ≡ 6
@@ -138,11 +145,13 @@ module _ (r : Record) (g : Long r) where
   j-length = simp (length-append, digits-length, g .symbol, prices-length r)
 
   pub bytes-length : lawfulOf r ≡ true → length (bytesOf r) ≡ lengthOf (r .kind)
-  unfolding bytesOf
-  bytes-length o = go (which (r .kind))
+  bytes-length o =
+      let k = lawful-typed r o in
+      ap length (bytes-as r (k .0) (k .1)) ∙ go (k .0) ∙ sym (ap lengthOf (k .1) ∙ long-letter (k .0))
     where
-      go : Which (r .kind) → length (bytesOf r) ≡ lengthOf (r .kind)
-      go (isS s) = simp s (s-length ∙ sym (length-S (r .kind) s))
-      go (isC s c) = simp (s, c) (c-length ∙ sym (length-C (r .kind) c))
-      go (isJ s c j) = simp (s, c, j) (j-length ∙ sym (length-J (r .kind) j))
-      go (isT s c j) = simp (s, c, j) (t-length ∙ sym (lawful-T r o s c j .0))
+      go : (k : Kind) → length (bytesAs r k) ≡ longOf k
+      go S = s-length
+      go T = t-length
+      go X = t-length
+      go C = c-length
+      go J = j-length

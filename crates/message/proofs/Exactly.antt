@@ -1,0 +1,141 @@
+-- What the reader's working definitions amount to: the layouts.
+-- Assumes nothing.
+use mathlib.Core.Path.{_≡_, refl, ap, sym, subst, _∙_}
+use mathlib.Core.Bool.{Bool, true, false, not, _||_}
+use mathlib.Core.List.{List, [], _∷_}
+use Prim.Native.Nat.{ℕ}
+use native.Mathlib.Omega.{arith}
+use borrow.Author.Tests.{eqb-true, eqb-false, ne-eqb, eq-eqb}
+use lib.Dec.{eqb}
+use lib.ListN.{length, getD}
+use Rattle.message.specs.declared.Record.{Record}
+use Rattle.message.specs.declared.Reading.{Reading}
+use Rattle.message.specs.declared.answer.Answer.the-variants.{NoType, FieldBroken}
+use Rattle.message.specs.Reading.{lengthOf, noSale, saleAt, fieldsS, fieldsTrade, fieldsT, fieldsC, fieldsJ, fieldsOf, lawfulOf, misshapen, refusedOf, acceptedOf, judgedOf, readOf}
+use Rattle.message.specs.Layouts.{Field, Entry, Kind, S, T, X, C, J, letter, longOf, layoutOf, stands, holds, fieldOf, keeps, isZero, Each, lacked, Shaped, Obeys, Lawful}
+use Rattle.message.proofs.Letters.{Which, typed, none, which, byKind, chosen-by, long-letter, long-some, typed-by}
+use Rattle.message.proofs.Lawful.{all-each, lawful-is, is-lawful}
+
+module _ (m : List ℕ) where
+  -- ---- the record of each type
+
+  abbrev pub fieldsAs : Kind → Record
+  fieldsAs k = byKind k (fieldsS m) (fieldsT m) (fieldsC m) (fieldsJ m)
+
+  pub fields-as : (k : Kind) → getD m 4 0 ≡ letter k → fieldsOf m ≡ fieldsAs k
+  unfolding fieldsOf
+  fields-as k e = chosen-by (getD m 4 0) k e (fieldsS m) (fieldsT m) (fieldsC m) (fieldsJ m)
+
+  pub kind-of : fieldsOf m .kind ≡ getD m 4 0
+  unfolding fieldsOf fieldsS fieldsTrade fieldsJ
+  kind-of = go (which (getD m 4 0))
+    where
+      at-kind : (k : Kind) → fieldsAs k .kind ≡ getD m 4 0
+      at-kind S = refl
+      at-kind T = refl
+      at-kind X = refl
+      at-kind C = refl
+      at-kind J = refl
+
+      go : Which (getD m 4 0) → fieldsOf m .kind ≡ getD m 4 0
+      go (typed k e) = ap (λ (r : Record). r .kind) (fields-as k e) ∙ at-kind k
+      go (none s t x c j) = simp (s, c, j)
+
+  -- every field of the layout stands at its place, every other is zero
+  stood-as : (k : Kind) → Each (λ e. holds (fieldOf e) (fieldsAs k) ≡ stands e m) (layoutOf k)
+  unfolding layoutOf holds stands fieldsS fieldsTrade fieldsJ saleAt
+  stood-as S = (refl, (refl, (refl, tt)))
+  stood-as T = (refl, (refl, (refl, (refl, (refl, (refl, (refl, (refl, (refl, (refl, tt))))))))))
+  stood-as X = (refl, (refl, (refl, (refl, (refl, (refl, (refl, (refl, (refl, (refl, tt))))))))))
+  stood-as C = (refl, (refl, (refl, (refl, (refl, (refl, (refl, (refl, (refl, (refl, (refl, (refl, (refl, (refl, tt))))))))))))))
+  stood-as J = (refl, (refl, (refl, (refl, (refl, (refl, (refl, (refl, tt))))))))
+
+  lacks-as : (k : Kind) → Each (λ f. isZero (holds f (fieldsAs k)) ≡ true) (lacked k)
+  unfolding layoutOf lacked holds isZero fieldsS fieldsTrade fieldsJ
+  lacks-as S = all-each (λ f. isZero (holds f (fieldsS m))) (lacked S) refl
+  lacks-as T = all-each (λ f. isZero (holds f (fieldsT m))) (lacked T) refl
+  lacks-as X = all-each (λ f. isZero (holds f (fieldsT m))) (lacked X) refl
+  lacks-as C = all-each (λ f. isZero (holds f (fieldsC m))) (lacked C) refl
+  lacks-as J = all-each (λ f. isZero (holds f (fieldsJ m))) (lacked J) refl
+
+  module _ (k : Kind) (e : getD m 4 0 ≡ letter k) where
+    pub stood : Each (λ e. holds (fieldOf e) (fieldsOf m) ≡ stands e m) (layoutOf k)
+    stood = subst (λ (r : Record). Each (λ e. holds (fieldOf e) r ≡ stands e m) (layoutOf k)) (sym (fields-as k e)) (stood-as k)
+
+    pub lacks : Each (λ f. isZero (holds f (fieldsOf m)) ≡ true) (lacked k)
+    lacks = subst (λ (r : Record). Each (λ f. isZero (holds f r) ≡ true) (lacked k)) (sym (fields-as k e)) (lacks-as k)
+
+  -- ---- shape
+
+  either-false : (a b : Bool) → (a || not b) ≡ false → (a ≡ false) × (b ≡ true)
+  either-false false true e = (refl, refl)
+  either-false false false e = let z : _≡_ {A = ℕ} 0 1 = cc in absurd (omega arith)
+  either-false true b e = let z : _≡_ {A = ℕ} 0 1 = cc in absurd (omega arith)
+
+  shape-parts : misshapen m ≡ false → (lengthOf (getD m 4 0) ≡ 0 → ⊥) × (length m ≡ lengthOf (getD m 4 0))
+  shape-parts e =
+      let p = either-false (eqb (lengthOf (getD m 4 0)) 0) (eqb (length m) (lengthOf (getD m 4 0))) e in
+      (eqb-false _ _ (p .0), eqb-true _ _ (p .1))
+
+  abbrev shaped-at : misshapen m ≡ false → (k : Kind) → getD m 4 0 ≡ letter k → Shaped m
+  shaped-at e k t = record { kind = k; typed = t; long = shape-parts e .1 ∙ ap lengthOf t ∙ long-letter k }
+
+  pub shaped-is : misshapen m ≡ false → Shaped m
+  shaped-is e =
+      let k = typed-by (getD m 4 0) (shape-parts e .0) in
+      shaped-at e (k .0) (k .1)
+
+  pub is-shaped : Shaped m → misshapen m ≡ false
+  is-shaped s = go (s .kind) (s .typed) (s .long)
+    where
+      flat : (n k : ℕ) → n ≡ k → (k ≡ 0 → ⊥) → (eqb k 0 || not (eqb n k)) ≡ false
+      flat n k e h = rw (ne-eqb k 0 h, eq-eqb n k e)
+
+      go : (k : Kind) → getD m 4 0 ≡ letter k → length m ≡ longOf k → misshapen m ≡ false
+      go k t l =
+          let w : lengthOf (getD m 4 0) ≡ longOf k = ap lengthOf t ∙ long-letter k in
+          flat (length m) (lengthOf (getD m 4 0)) (l ∙ sym w) (λ z. long-some k (sym w ∙ z))
+
+  -- ---- a message obeys its layout exactly if it is not misshapen and its record passes
+
+  each-stands : (r : Record) (es : List Entry) → Each (λ e. holds (fieldOf e) r ≡ stands e m) es → Each (λ e. keeps e (holds (fieldOf e) r) ≡ true) es
+      → Each (λ e. keeps e (stands e m) ≡ true) es
+  each-stands r [] p q = tt
+  each-stands r (e ∷ es) p q = (sym (ap (keeps e) (p .0)) ∙ q .0, each-stands r es (p .1) (q .1))
+
+  each-holds : (r : Record) (es : List Entry) → Each (λ e. holds (fieldOf e) r ≡ stands e m) es → Each (λ e. keeps e (stands e m) ≡ true) es
+      → Each (λ e. keeps e (holds (fieldOf e) r) ≡ true) es
+  each-holds r [] p q = tt
+  each-holds r (e ∷ es) p q = (ap (keeps e) (p .0) ∙ q .0, each-holds r es (p .1) (q .1))
+
+  pub obeys-is : misshapen m ≡ false → lawfulOf (fieldsOf m) ≡ true → Obeys m
+  obeys-is e o =
+      let w = lawful-is (fieldsOf m) o in
+      let t : getD m 4 0 ≡ letter (w .kind) = sym kind-of ∙ w .typed in
+      record { shape = shaped-at e (w .kind) t; kept = each-stands (fieldsOf m) (layoutOf (w .kind)) (stood (w .kind) t) (w .kept) }
+
+  pub is-obeys : Obeys m → lawfulOf (fieldsOf m) ≡ true
+  is-obeys o =
+      let k = o .shape .kind in
+      let t = o .shape .typed in
+      is-lawful (fieldsOf m)
+      (record { kind = k; typed = kind-of ∙ t; kept = each-holds (fieldsOf m) (layoutOf k) (stood k t) (o .kept); empty = lacks k t })
+
+  -- ---- the three answers of the reader
+
+  pub data Said : Type 0 where
+    wrong : misshapen m ≡ true → readOf m ≡ refusedOf NoType → Said
+    broken : misshapen m ≡ false → lawfulOf (fieldsOf m) ≡ false → readOf m ≡ refusedOf FieldBroken → Said
+    done : misshapen m ≡ false → lawfulOf (fieldsOf m) ≡ true → readOf m ≡ acceptedOf (fieldsOf m) → Said
+
+  pub said : Said
+  unfolding readOf judgedOf
+  said = shape (misshapen m) refl
+    where
+      judge : misshapen m ≡ false → (b : Bool) → lawfulOf (fieldsOf m) ≡ b → Said
+      judge e true o = done e o (simp (e, o))
+      judge e false o = broken e o (simp (e, o))
+
+      shape : (b : Bool) → misshapen m ≡ b → Said
+      shape true e = wrong e (simp e)
+      shape false e = judge e (lawfulOf (fieldsOf m)) refl
