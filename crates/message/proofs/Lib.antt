@@ -3,3 +3,4 @@ pub mod Stores
 pub mod Written
 pub mod Lawful
 pub mod Exactly
+pub mod Trips

@@ -75,6 +75,10 @@ part-nil m at = refl
 pub link : (m : List ℕ) (at k n : ℕ) → suc at ≡ k → getD m at 0 ∷ part m k n ≡ part m at (suc n)
 link m at k n e = rw (← e) (sym (part-cons m at n))
 
+-- one byte alone
+pub alone : (m : List ℕ) (at : ℕ) → getD m at 0 ∷ [] ≡ part m at 1
+alone m at = sym (part-cons m at 0 ∙ ap (λ (xs : List ℕ). getD m at 0 ∷ xs) (part-nil m (suc at)))
+
 -- a run and the run behind it
 pub join : (m : List ℕ) (at n k j : ℕ) → at + n ≡ j → part m at n ++ part m j k ≡ part m at (n + k)
 join m at zero k j e =
