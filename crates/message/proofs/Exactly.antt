@@ -72,7 +72,7 @@ module _ (m : List ℕ) where
   either-false false false e = let z : _≡_ {A = ℕ} 0 1 = cc in absurd (omega arith)
   either-false true b e = let z : _≡_ {A = ℕ} 0 1 = cc in absurd (omega arith)
 
-  shape-parts : misshapen m ≡ false → (lengthOf (getD m 4 0) ≡ 0 → ⊥) × (length m ≡ lengthOf (getD m 4 0))
+  pub shape-parts : misshapen m ≡ false → (lengthOf (getD m 4 0) ≡ 0 → ⊥) × (length m ≡ lengthOf (getD m 4 0))
   shape-parts e =
       let p = either-false (eqb (lengthOf (getD m 4 0)) 0) (eqb (length m) (lengthOf (getD m 4 0))) e in
       (eqb-false _ _ (p .0), eqb-true _ _ (p .1))
@@ -124,18 +124,18 @@ module _ (m : List ℕ) where
   -- ---- the three answers of the reader
 
   pub data Said : Type 0 where
-    wrong : misshapen m ≡ true → readOf m ≡ refusedOf NoType → Said
-    broken : misshapen m ≡ false → lawfulOf (fieldsOf m) ≡ false → readOf m ≡ refusedOf FieldBroken → Said
-    done : misshapen m ≡ false → lawfulOf (fieldsOf m) ≡ true → readOf m ≡ acceptedOf (fieldsOf m) → Said
+    unshaped : misshapen m ≡ true → readOf m ≡ refusedOf NoType → Said
+    unkept : misshapen m ≡ false → lawfulOf (fieldsOf m) ≡ false → readOf m ≡ refusedOf FieldBroken → Said
+    obeyed : misshapen m ≡ false → lawfulOf (fieldsOf m) ≡ true → readOf m ≡ acceptedOf (fieldsOf m) → Said
 
   pub said : Said
   unfolding readOf judgedOf
   said = shape (misshapen m) refl
     where
       judge : misshapen m ≡ false → (b : Bool) → lawfulOf (fieldsOf m) ≡ b → Said
-      judge e true o = done e o (simp (e, o))
-      judge e false o = broken e o (simp (e, o))
+      judge e true o = obeyed e o (simp (e, o))
+      judge e false o = unkept e o (simp (e, o))
 
       shape : (b : Bool) → misshapen m ≡ b → Said
-      shape true e = wrong e (simp e)
+      shape true e = unshaped e (simp e)
       shape false e = judge e (lawfulOf (fieldsOf m)) refl

@@ -4,3 +4,4 @@ pub mod Written
 pub mod Lawful
 pub mod Exactly
 pub mod Trips
+pub mod Demand2

@@ -264,6 +264,9 @@ module _ (r : Record) (g : RecordFits r) where
   letter-here C = head-4 _
   letter-here J = at-4 (bytesJ r) _ refl
 
+  pub letter-again : (k : Kind) → r .kind ≡ letter k → getD (bytesOf r) 4 0 ≡ letter k
+  letter-again k e = ap (λ (m : List ℕ). getD m 4 0) (bytes-as r k e) ∙ letter-here k ∙ e
+
   -- the record that a record's bytes fill is the record
   pub bytes-again : (k : Kind) → r .kind ≡ letter k → Empty k → fieldsOf (bytesOf r) ≡ r
   unfolding lacked layoutOf
