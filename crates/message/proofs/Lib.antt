@@ -5,3 +5,4 @@ pub mod Lawful
 pub mod Exactly
 pub mod Trips
 pub mod Demand2
+pub mod Promise

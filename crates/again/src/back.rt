@@ -1,0 +1,34 @@
+// A message read, a record written, and both told.
+use crate::fields;
+use crate::tell;
+use message::Record;
+use message::answer;
+
+// What a lent space holds before a record is written.
+pub const MARKER: u8 = 0xee;
+
+pub fn again(message: &[u8], space: &mut [u8]) {
+    let r = read(message);
+    write(r, space);
+}
+
+pub fn read(message: &[u8]) -> Record {
+    tell::words(b"given ");
+    tell::hex(message);
+    let said = message::read(message);
+    let a = said.answer;
+    tell::words(b"\nread ");
+    tell::number(answer::number(a) as u64);
+    let found = said.found;
+    fields::tell(found);
+    found
+}
+
+pub fn write(r: Record, space: &mut [u8]) {
+    let a = message::write(r, space);
+    tell::words(b"write ");
+    tell::number(answer::number(a) as u64);
+    tell::words(b"\nspace ");
+    tell::hex(space);
+    tell::words(b"\n");
+}

@@ -1,0 +1,57 @@
+// What is refused, tried on a trade report: the record is of zeros, and the lent space stays.
+use crate::back;
+use crate::sound;
+use crate::tell;
+use message::Record;
+
+pub fn reads() {
+    // The last byte of a whole report has no place here.
+    let mut cut = [0u8; 44];
+    sound::trade(&mut cut, b'T');
+    tell::words(b"T one byte short\n");
+    back::read(&cut);
+    let mut message = [0u8; 45];
+    sound::trade(&mut message, b'T');
+    octets::number::put4(&mut message, 25, 0);
+    tell::words(b"T with price 0\n");
+    back::read(&message);
+}
+
+pub fn writes() {
+    let r = report();
+    tell::words(b"T into a space one byte short\n");
+    short(r);
+    tell::words(b"T with an event\n");
+    whole(with_event(r));
+    tell::words(b"T with an event into a space one byte short\n");
+    short(with_event(r));
+    tell::words(b"T renamed Z\n");
+    whole(renamed(r));
+}
+
+fn report() -> Record {
+    let mut message = [0u8; 45];
+    sound::trade(&mut message, b'T');
+    let said = message::read(&message);
+    said.found
+}
+
+fn short(r: Record) {
+    let mut space = [back::MARKER; 44];
+    back::write(r, &mut space);
+}
+
+fn whole(r: Record) {
+    let mut space = [back::MARKER; 48];
+    back::write(r, &mut space);
+}
+
+fn with_event(mut r: Record) -> Record {
+    r.event = b'O';
+    r
+}
+
+fn renamed(mut r: Record) -> Record {
+    r.kind = b'Z';
+    r
+}

@@ -1,0 +1,81 @@
+-- Each public function's contract leaves one possible answer and one possible content for each lent byte. `Learnt` is
+-- that contract as the compiler hands it to a caller: of the arguments, of the result, and of the arguments again as
+-- the call returns.
+-- Assumes nothing.
+use mathlib.Core.Path.{_≡_, refl, ap, sym, subst, _∙_}
+use mathlib.Core.List.{List}
+use Prim.Native.Nat.{ℕ}
+use contract.Lifetimes.{Lfts}
+use borrow.Fn.World.{ArgsD}
+use borrow.Fn.Kinds.{endedOf}
+use denote.Triple.Clauses.{AtExit}
+use denote.Ref.{now}
+use Rattle.message.specs.declared.Reading.{Reading}
+use Rattle.message.specs.declared.answer.Answer.{Answer}
+use Rattle.message.specs.declared.answer.Answer.the-variants.{Done, NumberOutside, NumberBelow, NumberAbove, NoType, FieldBroken, NotDue, NotListed, NoLine, LineDead, LineDiffers, KeyUsed, LinesFull, ListingBroken, ListingLate, ListedAlready, RowsFull, Unsound, NoSpace}
+use Rattle.message.specs.Answers.{numberOf, answerOf}
+use Rattle.message.specs.Reading.{readOf}
+use Rattle.message.specs.Writing.{writeAnswer, writeOut}
+use Rattle.message.proofs.read as read
+use Rattle.message.proofs.read.Reads as read-reads
+use Rattle.message.proofs.read.Kinds as read-kinds
+use Rattle.message.proofs.write as write
+use Rattle.message.proofs.write.Reads as write-reads
+use Rattle.message.proofs.write.Kinds as write-kinds
+use Rattle.message.proofs.answer.number.Reads as number-reads
+use Rattle.message.proofs.Demand2.{ReadsExactly, read-exactly, WritesExactly, write-exactly}
+
+module _ (κs : Lfts 1) (a : ArgsD read.signature κs) where
+  -- what `read` tells of a message is what `readOf` says of its bytes, and nothing else
+  pub read-says : (r : Reading) (s : AtExit (endedOf 1 read-kinds.ps read-kinds.r) κs) → read-reads.Learnt κs a r s ≡ (r ≡ readOf (now (a .0)))
+  read-says r s = refl
+
+  pub read-one : (r r′ : Reading) (s s′ : AtExit (endedOf 1 read-kinds.ps read-kinds.r) κs) → read-reads.Learnt κs a r s → read-reads.Learnt κs a r′ s′ → r ≡ r′
+  read-one r r′ s s′ h h′ = h ∙ sym h′
+
+  -- `read-exactly` of a call
+  pub read-called : (r : Reading) (s : AtExit (endedOf 1 read-kinds.ps read-kinds.r) κs) → read-reads.Learnt κs a r s → ReadsExactly (now (a .0)) r
+  read-called r s h = subst (ReadsExactly (now (a .0))) (sym h) (read-exactly (now (a .0)))
+
+module _ (κs : Lfts 1) (a : ArgsD write.signature κs) where
+  pub write-says : (r : Answer) (s : AtExit (endedOf 1 write-kinds.ps write-kinds.r) κs)
+      → write-reads.Learnt κs a r s ≡ ((r ≡ writeAnswer (a .0) (now (a .1 .0))) × (now (s .1 .0) ≡ writeOut (a .0) (now (a .1 .0))))
+  write-says r s = refl
+
+  pub write-one : (r r′ : Answer) (s s′ : AtExit (endedOf 1 write-kinds.ps write-kinds.r) κs)
+      → write-reads.Learnt κs a r s → write-reads.Learnt κs a r′ s′ → (r ≡ r′) × (now (s .1 .0) ≡ now (s′ .1 .0))
+  write-one r r′ s s′ h h′ = (h .0 ∙ sym (h′ .0), h .1 ∙ sym (h′ .1))
+
+  -- `write-exactly` of a call
+  pub write-called : (r : Answer) (s : AtExit (endedOf 1 write-kinds.ps write-kinds.r) κs)
+      → write-reads.Learnt κs a r s → WritesExactly (a .0) (now (a .1 .0)) r (now (s .1 .0))
+  write-called r s h = rw (h .0, h .1) (write-exactly (a .0) (now (a .1 .0)))
+
+pub number-one : (a e e′ : Answer) (r r′ : ℕ) → number-reads.Learnt tt (a, tt) r (e, tt) → number-reads.Learnt tt (a, tt) r′ (e′, tt) → r ≡ r′
+number-one a e e′ r r′ h h′ = h ∙ sym h′
+
+-- no two answers share a number
+number-back : (a : Answer) → answerOf (numberOf a) ≡ a
+unfolding answerOf
+number-back Done = refl
+number-back NumberOutside = refl
+number-back NumberBelow = refl
+number-back NumberAbove = refl
+number-back NoType = refl
+number-back FieldBroken = refl
+number-back NotDue = refl
+number-back NotListed = refl
+number-back NoLine = refl
+number-back LineDead = refl
+number-back LineDiffers = refl
+number-back KeyUsed = refl
+number-back LinesFull = refl
+number-back ListingBroken = refl
+number-back ListingLate = refl
+number-back ListedAlready = refl
+number-back RowsFull = refl
+number-back Unsound = refl
+number-back NoSpace = refl
+
+pub numbers-differ : (a b : Answer) → numberOf a ≡ numberOf b → a ≡ b
+numbers-differ a b e = sym (number-back a) ∙ ap answerOf e ∙ number-back b
