@@ -1,8 +1,12 @@
 // The record that a message's bytes fill, type by type, before any rule is asked.
+use crate::Reading;
+use crate::Record;
+use crate::Sale;
 use crate::answer::Answer;
-use crate::{Reading, Record, Sale};
-use octets::number::{number4, number8};
-use octets::run::{byte, fill};
+use octets::number::number4;
+use octets::number::number8;
+use octets::run::byte;
+use octets::run::fill;
 ghost use mathlib.Core.Path.{_≡_};
 ghost use Prim.Native.Nat.{_≤_};
 ghost use Rattle.message.specs.Reading as R;
@@ -38,7 +42,10 @@ pub fn refused(a: Answer) -> Reading
         close: 0,
         consolidated: 0,
     };
-    Reading { answer: a, found: none }
+    Reading {
+        answer: a,
+        found: none,
+    }
 }
 
 // Control, price, size and condition, from a place on.

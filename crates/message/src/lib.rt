@@ -58,7 +58,10 @@ fn judged(r: Record) -> Reading
     ensures { λ o. ⌜ o ≡ judgedOf r ⌝ }
 {
     if rules::lawful(r) {
-        Reading { answer: Answer::Done, found: r }
+        Reading {
+            answer: Answer::Done,
+            found: r,
+        }
     } else {
         fields::refused(Answer::FieldBroken)
     }
@@ -88,5 +91,9 @@ pub fn write(r: Record, out: &mut [u8]) -> Answer
         store::store(out, r);
         return Answer::Done;
     }
-    if sound { Answer::NoSpace } else { Answer::FieldBroken }
+    if sound {
+        Answer::NoSpace
+    } else {
+        Answer::FieldBroken
+    }
 }

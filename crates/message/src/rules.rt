@@ -1,6 +1,8 @@
 // The field rules, and whether a record keeps those of its type.
-use crate::{Record, Sale};
-use octets::text::{is_all, is_text};
+use crate::Record;
+use crate::Sale;
+use octets::text::is_all;
+use octets::text::is_text;
 ghost use mathlib.Core.Path.{_≡_};
 ghost use Rattle.message.specs.Rules as Rules;
 ghost use Rattle.message.specs.Reading as R;

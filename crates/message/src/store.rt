@@ -1,7 +1,10 @@
 // A record's bytes, stored field by field at the front of lent bytes.
-use crate::{Record, Sale};
-use octets::number::{put4, put8};
-use octets::run::{paste, put_byte};
+use crate::Record;
+use crate::Sale;
+use octets::number::put4;
+use octets::number::put8;
+use octets::run::paste;
+use octets::run::put_byte;
 ghost use mathlib.Core.Path.{_≡_};
 ghost use Prim.Native.Nat.{_≤_};
 ghost use lib.Seq.{sets};

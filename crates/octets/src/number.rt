@@ -1,5 +1,6 @@
 // Big-endian numbers of four and of eight bytes, read and stored at any place.
-use crate::run::{byte_past, put_past};
+use crate::run::byte_past;
+use crate::run::put_past;
 ghost use mathlib.Core.Path.{_≡_};
 ghost use Prim.Native.Nat.{_<_, _≤_};
 ghost use lib.Seq.{sets};

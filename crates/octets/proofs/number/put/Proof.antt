@@ -37,9 +37,11 @@ loop-again : tie.Need-loop-again Inv-loop μ-loop
 loop-again c =
     let a = c .before .before .before .before .before .before .before .args in
     let l = c .before .before .before .before .before .loop in
-    let e = c .before .before .put-past .ensures in
-    (omega arith, rw e (simp length-set (l .inv .1)),
-     rw e (sym (put-turn (l .out) (a .at) (l .i) (l .y) (c .before .before .before .before .loop-test .taken)) ∙ l .inv .2))
+    let e = c .before .before .put-past .ensures in (
+      omega arith,
+      rw e (simp length-set (l .inv .1)),
+      rw e (sym (put-turn (l .out) (a .at) (l .i) (l .y) (c .before .before .before .before .loop-test .taken)) ∙ l .inv .2),
+    )
 
 same-length : tie.Need-same-length Inv-loop μ-loop
 same-length c = c .before .loop .inv .1

@@ -45,9 +45,11 @@ loop-again c =
     let a = c .before .before .before .before .before .args in
     let l = c .before .before .loop in
     let e = c .byte-past .ensures in
-    let h : l .i < length (a .out .now) = omega arith in
-    (omega arith, simp length-set (l .inv .1),
-     rw (c .byte-past .ensures) (sym (fill-turn (l .out) (a .s .now) (a .at) (l .i) (length (a .out .now)) h) ∙ l .inv .2))
+    let h : l .i < length (a .out .now) = omega arith in (
+      omega arith,
+      simp length-set (l .inv .1),
+      rw (c .byte-past .ensures) (sym (fill-turn (l .out) (a .s .now) (a .at) (l .i) (length (a .out .now)) h) ∙ l .inv .2),
+    )
 
 same-length : tie.Need-same-length Inv-loop μ-loop
 same-length c = c .before .loop .inv .1
