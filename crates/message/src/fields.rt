@@ -96,14 +96,14 @@ fn fields_trade(m: &[u8], new: Sale, consolidated: u64) -> Record
     ensures { λ r. ⌜ r ≡ R.fieldsTrade (now (m .entry)) new consolidated ⌝ }
 {
     let time = number4(m, 0);
-    let kind = byte(m, 4);
+    let letter = byte(m, 4);
     let centre = byte(m, 5);
     let mut symbol = [0u8; 8];
     fill(&mut symbol, m, 6);
     let class = byte(m, 14);
     let sale = sale_at(m, 15);
     Record {
-        kind: kind,
+        kind: letter,
         time: time,
         event: 0,
         centre: centre,
