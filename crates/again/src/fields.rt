@@ -15,7 +15,7 @@ pub fn tell(r: Record) {
 
 fn head(r: Record) {
     tell::words(b"\ntype ");
-    tell::letter(r.kind);
+    tell::letter(r.letter);
     tell::words(b" time ");
     tell::number(r.time as u64);
     tell::words(b" event ");

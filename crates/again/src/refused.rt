@@ -52,6 +52,6 @@ fn with_event(mut r: Record) -> Record {
 }
 
 fn renamed(mut r: Record) -> Record {
-    r.kind = b'Z';
+    r.letter = b'Z';
     r
 }

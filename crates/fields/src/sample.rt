@@ -60,13 +60,11 @@ pub fn with_length(s: Sample, length: usize) -> Sample {
     }
 }
 
-// Stores a number's lowest bytes, as many as its width, the highest first.
+// Stores a number of four bytes or of eight.
 fn put_number(out: &mut [u8], at: usize, width: usize, x: u64) {
-    let mut i: usize = width;
-    let mut rest: u64 = x;
-    while 0 < i {
-        i -= 1;
-        octets::run::put_past(out, at, i, (rest % 256) as u8);
-        rest = rest / 256;
+    if width == 4 {
+        octets::number::put4(out, at, (x % 4294967296) as u32);
+    } else {
+        octets::number::put8(out, at, x);
     }
 }

@@ -15,15 +15,15 @@ use Rattle.octets.specs.Run.{Bytes}
 use Rattle.message.specs.declared.Record.{Record}
 use Rattle.message.specs.declared.Reading.{Reading}
 use Rattle.message.specs.declared.answer.Answer.{Answer}
-use Rattle.message.specs.declared.answer.Answer.the-variants.{Done, NoType, FieldBroken, NoSpace}
+use Rattle.message.specs.declared.answer.Answer.the-variants.{Done, FieldBroken, NoSpace}
 use Rattle.message.specs.Answers.{numberOf}
 use Rattle.message.specs.Fits.{RecordFits}
-use Rattle.message.specs.Layouts.{Kind, letter, longOf, layoutOf, stands, holds, fieldOf, isZero, Each, fields, lacked, Shaped, Obeys, Lawful}
-use Rattle.message.specs.Reading.{lengthOf, noRecord, fieldsOf, lawfulOf, misshapen, refusedOf, acceptedOf, judgedOf, readOf}
+use Rattle.message.specs.Layouts.{MessageType, letterOf, lengthOf, layoutOf, stands, holds, fieldOf, isZero, Each, allFields, lacked, Shaped, Obeys, Lawful}
+use Rattle.message.specs.Reading.{lengthBy, noRecord, fieldsOf, lawfulOf, misshapen, refusedOf, acceptedOf, judgedOf, readOf}
 use Rattle.message.specs.Writing.{bytesOf, writeAnswer, writeOut}
 use Rattle.message.proofs.Letters.{long-letter, lawful-typed}
 use Rattle.message.proofs.Lawful.{all-each, lawful-is, is-lawful}
-use Rattle.message.proofs.Exactly.{kind-of, stood, lacks, shape-parts, shaped-is, is-shaped, obeys-is, is-obeys, Said, unshaped, unkept, obeyed, said}
+use Rattle.message.proofs.Exactly.{letter-of, stood, lacks, shape-parts, shaped-is, is-shaped, obeys-is, is-obeys, Said, unshaped, unkept, obeyed, said}
 use Rattle.message.proofs.Stores.{fits-long, bytes-length}
 use Rattle.message.proofs.Trips.{fields-again, bytes-again, letter-again}
 
@@ -39,13 +39,13 @@ pub record ReadsExactly (m : List ℕ) (a : Reading) : Type 0 where
   pub zero : (numberOf (a .answer) ≡ 0) ↔ Obeys m
   pub four : (numberOf (a .answer) ≡ 4) ↔ (Shaped m → ⊥)
   pub five : (numberOf (a .answer) ≡ 5) ↔ (Shaped m × (Obeys m → ⊥))
-  pub filled : (o : Obeys m) → Each (λ e. holds (fieldOf e) (a .found) ≡ stands e m) (layoutOf (o .shape .kind))
-  pub others : (o : Obeys m) → Each (λ f. isZero (holds f (a .found)) ≡ true) (lacked (o .shape .kind))
+  pub filled : (o : Obeys m) → Each (λ e. holds (fieldOf e) (a .found) ≡ stands e m) (layoutOf (o .shape .type))
+  pub others : (o : Obeys m) → Each (λ f. isZero (holds f (a .found)) ≡ true) (lacked (o .shape .type))
 
 pub read-exactly : (m : List ℕ) → ReadsExactly m (readOf m)
 read-exactly m = go (said m)
   where
-    at-wrong : misshapen m ≡ true → ReadsExactly m (refusedOf NoType)
+    at-wrong : misshapen m ≡ true → ReadsExactly m (refusedOf 4)
     at-wrong e =
         let never : Obeys m → ⊥ = λ o. clash (misshapen m) e (is-shaped m (o .shape)) in
         record {
@@ -56,7 +56,7 @@ read-exactly m = go (said m)
           others = λ o. absurd (never o);
         }
 
-    at-broken : misshapen m ≡ false → lawfulOf (fieldsOf m) ≡ false → ReadsExactly m (refusedOf FieldBroken)
+    at-broken : misshapen m ≡ false → lawfulOf (fieldsOf m) ≡ false → ReadsExactly m (refusedOf 5)
     at-broken e f =
         let never : Obeys m → ⊥ = λ o. clash (lawfulOf (fieldsOf m)) (is-obeys m o) f in
         record {
@@ -73,8 +73,8 @@ read-exactly m = go (said m)
           zero = (λ z. obeys-is m e l, λ o. refl);
           four = (λ z. absurd (omega arith), λ h. absurd (h (shaped-is m e)));
           five = (λ z. absurd (omega arith), λ p. absurd (p .1 (obeys-is m e l)));
-          filled = λ o. stood m (o .shape .kind) (o .shape .typed);
-          others = λ o. lacks m (o .shape .kind) (o .shape .typed);
+          filled = λ o. stood m (o .shape .type) (o .shape .typed);
+          others = λ o. lacks m (o .shape .type) (o .shape .typed);
         }
 
     go : Said m → ReadsExactly m (readOf m)
@@ -82,19 +82,19 @@ read-exactly m = go (said m)
     go (unkept e f q) = subst (ReadsExactly m) (sym q) (at-broken e f)
     go (obeyed e l q) = subst (ReadsExactly m) (sym q) (at-done e l)
 
-zeros : Each (λ f. isZero (holds f noRecord) ≡ true) fields
+zeros : Each (λ f. isZero (holds f noRecord) ≡ true) allFields
 unfolding holds isZero
-zeros = all-each (λ f. isZero (holds f noRecord)) fields refl
+zeros = all-each (λ f. isZero (holds f noRecord)) allFields refl
 
 -- a refused read hands back a record of zeros, in every field
 pub read-refused : (m : List ℕ) → (numberOf (readOf m .answer) ≡ 0 → ⊥)
-    → (readOf m .found ≡ noRecord) × Each (λ f. isZero (holds f (readOf m .found)) ≡ true) fields
+    → (readOf m .found ≡ noRecord) × Each (λ f. isZero (holds f (readOf m .found)) ≡ true) allFields
 read-refused m h = go (said m)
   where
-    none : (r : Record) → r ≡ noRecord → (r ≡ noRecord) × Each (λ f. isZero (holds f r) ≡ true) fields
-    none r e = (e, subst (λ (x : Record). Each (λ f. isZero (holds f x) ≡ true) fields) (sym e) zeros)
+    none : (r : Record) → r ≡ noRecord → (r ≡ noRecord) × Each (λ f. isZero (holds f r) ≡ true) allFields
+    none r e = (e, subst (λ (x : Record). Each (λ f. isZero (holds f x) ≡ true) allFields) (sym e) zeros)
 
-    go : Said m → (readOf m .found ≡ noRecord) × Each (λ f. isZero (holds f (readOf m .found)) ≡ true) fields
+    go : Said m → (readOf m .found ≡ noRecord) × Each (λ f. isZero (holds f (readOf m .found)) ≡ true) allFields
     go (unshaped e q) = none (readOf m .found) (ap (λ (a : Reading). a .found) q)
     go (unkept e f q) = none (readOf m .found) (ap (λ (a : Reading). a .found) q)
     go (obeyed e l q) = absurd (h (ap (λ (a : Reading). numberOf (a .answer)) q))
@@ -113,7 +113,7 @@ done-parts m z = go (said m)
         absurd (omega arith)
     go (obeyed e l q) = (e, l, ap (λ (a : Reading). a .found) q)
 
-write-done : (r : Record) (out : List ℕ) → lawfulOf r ≡ true → lengthOf (r .kind) ≤ length out
+write-done : (r : Record) (out : List ℕ) → lawfulOf r ≡ true → lengthBy (r .letter) ≤ length out
     → (writeAnswer r out ≡ Done) × (writeOut r out ≡ bytesOf r ++ drop (length (bytesOf r)) out)
 unfolding writeAnswer writeOut
 write-done r out l k = (simp (l, le-leb _ _ k), simp (l, le-leb _ _ k))
@@ -128,12 +128,12 @@ pub read-again : (m out : List ℕ) → Bytes m → numberOf (readOf m .answer) 
 read-again m out b z h =
     let p = done-parts m z in
     let s = shaped-is m (p .0) in
-    let k : lengthOf (fieldsOf m .kind) ≡ length m = ap lengthOf (kind-of m) ∙ sym (shape-parts m (p .0) .1) in
-    let a : bytesOf (fieldsOf m) ≡ m = fields-again m b (s .kind) (s .typed) (s .long) in
+    let k : lengthBy (fieldsOf m .letter) ≡ length m = ap lengthBy (letter-of m) ∙ sym (shape-parts m (p .0) .1) in
+    let a : bytesOf (fieldsOf m) ≡ m = fields-again m b (s .type) (s .typed) (s .long) in
     subst (λ (r : Record). (numberOf (writeAnswer r out) ≡ 0) × (writeOut r out ≡ m ++ drop (length m) out)) (sym (p .2))
     (written (fieldsOf m) (p .1) (omega arith) a)
   where
-    written : (r : Record) → lawfulOf r ≡ true → lengthOf (r .kind) ≤ length out → bytesOf r ≡ m
+    written : (r : Record) → lawfulOf r ≡ true → lengthBy (r .letter) ≤ length out → bytesOf r ≡ m
         → (numberOf (writeAnswer r out) ≡ 0) × (writeOut r out ≡ m ++ drop (length m) out)
     written r l k a = (ap numberOf (write-done r out l k .0), write-done r out l k .1 ∙ ap (λ (x : List ℕ). x ++ drop (length x) out) a)
 
@@ -142,14 +142,14 @@ read-again m out b z h =
 -- What writing a record may say and leave: 0 exactly if it keeps the rules of its type and there is room, 18 exactly if
 -- it keeps them and there is not, 5 exactly if it breaks one. Where not 0, every byte stays; where 0, those past the message.
 pub record WritesExactly (r : Record) (out : List ℕ) (a : Answer) (left : List ℕ) : Type 0 where
-  pub zero : (numberOf a ≡ 0) ↔ ((w : Lawful r) × (longOf (w .kind) ≤ length out))
-  pub short : (numberOf a ≡ 18) ↔ ((w : Lawful r) × (length out < longOf (w .kind)))
+  pub zero : (numberOf a ≡ 0) ↔ ((w : Lawful r) × (lengthOf (w .type) ≤ length out))
+  pub short : (numberOf a ≡ 18) ↔ ((w : Lawful r) × (length out < lengthOf (w .type)))
   pub five : (numberOf a ≡ 5) ↔ (Lawful r → ⊥)
   pub stays : (numberOf a ≡ 0 → ⊥) → left ≡ out
-  pub past : RecordFits r → drop (lengthOf (r .kind)) left ≡ drop (lengthOf (r .kind)) out
+  pub past : RecordFits r → drop (lengthBy (r .letter)) left ≡ drop (lengthBy (r .letter)) out
 
-long-is : (r : Record) (w : Lawful r) → lengthOf (r .kind) ≡ longOf (w .kind)
-long-is r w = ap lengthOf (w .typed) ∙ long-letter (w .kind)
+long-is : (r : Record) (w : Lawful r) → lengthBy (r .letter) ≡ lengthOf (w .type)
+long-is r w = ap lengthBy (w .typed) ∙ long-letter (w .type)
 
 pub write-exactly : (r : Record) (out : List ℕ) → WritesExactly r out (writeAnswer r out) (writeOut r out)
 unfolding writeAnswer writeOut
@@ -169,7 +169,7 @@ write-exactly r out = rules (lawfulOf r) refl
           past = λ g. refl;
         }
 
-    tight : lawfulOf r ≡ true → length out < lengthOf (r .kind) → is NoSpace out
+    tight : lawfulOf r ≡ true → length out < lengthBy (r .letter) → is NoSpace out
     tight l k =
         let w = lawful-is r l in
         record {
@@ -180,7 +180,7 @@ write-exactly r out = rules (lawfulOf r) refl
           past = λ g. refl;
         }
 
-    roomy : lawfulOf r ≡ true → lengthOf (r .kind) ≤ length out → is Done (bytesOf r ++ drop (length (bytesOf r)) out)
+    roomy : lawfulOf r ≡ true → lengthBy (r .letter) ≤ length out → is Done (bytesOf r ++ drop (length (bytesOf r)) out)
     roomy l k =
         let w = lawful-is r l in
         record {
@@ -191,16 +191,16 @@ write-exactly r out = rules (lawfulOf r) refl
           past = λ g. passed (bytes-length r (fits-long r g) l);
         }
       where
-        passed : length (bytesOf r) ≡ lengthOf (r .kind)
-            → drop (lengthOf (r .kind)) (bytesOf r ++ drop (length (bytesOf r)) out) ≡ drop (lengthOf (r .kind)) out
-        passed e = drop-at (bytesOf r) _ (lengthOf (r .kind)) e ∙ ap (λ (n : ℕ). drop n out) e
+        passed : length (bytesOf r) ≡ lengthBy (r .letter)
+            → drop (lengthBy (r .letter)) (bytesOf r ++ drop (length (bytesOf r)) out) ≡ drop (lengthBy (r .letter)) out
+        passed e = drop-at (bytesOf r) _ (lengthBy (r .letter)) e ∙ ap (λ (n : ℕ). drop n out) e
 
-    room : lawfulOf r ≡ true → (b : Bool) → leb (lengthOf (r .kind)) (length out) ≡ b → is (writeAnswer r out) (writeOut r out)
+    room : lawfulOf r ≡ true → (b : Bool) → leb (lengthBy (r .letter)) (length out) ≡ b → is (writeAnswer r out) (writeOut r out)
     room l true e = simp (l, e) (roomy l (leb-true _ _ e))
     room l false e = simp (l, e) (tight l (leb-false _ _ e))
 
     rules : (b : Bool) → lawfulOf r ≡ b → is (writeAnswer r out) (writeOut r out)
-    rules true l = room l (leb (lengthOf (r .kind)) (length out)) refl
+    rules true l = room l (leb (lengthBy (r .letter)) (length out)) refl
     rules false f = simp f (unlawful f)
 
 -- a record that breaks a rule, or has a value in a field that its type lacks, is not written
@@ -214,16 +214,16 @@ broken r out h =
 
 -- a record that was written is read as it was
 pub write-again : (r : Record) (out : List ℕ) → RecordFits r → numberOf (writeAnswer r out) ≡ 0
-    → readOf (take (lengthOf (r .kind)) (writeOut r out)) ≡ acceptedOf r
+    → readOf (take (lengthBy (r .letter)) (writeOut r out)) ≡ acceptedOf r
 write-again r out g z =
     let p = write-exactly r out .zero .0 z in
     let w = p .0 in
     let l : lawfulOf r ≡ true = is-lawful r w in
-    let k : lengthOf (r .kind) ≤ length out = omega (arith, p .1, long-is r w) in
-    let n : length (bytesOf r) ≡ lengthOf (r .kind) = bytes-length r (fits-long r g) l in
-    let t : take (lengthOf (r .kind)) (writeOut r out) ≡ bytesOf r =
-    ap (take (lengthOf (r .kind))) (write-done r out l k .1) ∙ take-at (bytesOf r) _ (lengthOf (r .kind)) n in
-    let e : getD (bytesOf r) 4 0 ≡ letter (w .kind) = letter-again r g (w .kind) (w .typed) in
-    let s : misshapen (bytesOf r) ≡ false = is-shaped (bytesOf r) (record { kind = w .kind; typed = e; long = n ∙ long-is r w }) in
-    let b : fieldsOf (bytesOf r) ≡ r = bytes-again r g (w .kind) (w .typed) (w .empty) in
+    let k : lengthBy (r .letter) ≤ length out = omega (arith, p .1, long-is r w) in
+    let n : length (bytesOf r) ≡ lengthBy (r .letter) = bytes-length r (fits-long r g) l in
+    let t : take (lengthBy (r .letter)) (writeOut r out) ≡ bytesOf r =
+    ap (take (lengthBy (r .letter))) (write-done r out l k .1) ∙ take-at (bytesOf r) _ (lengthBy (r .letter)) n in
+    let e : getD (bytesOf r) 4 0 ≡ letterOf (w .type) = letter-again r g (w .type) (w .typed) in
+    let s : misshapen (bytesOf r) ≡ false = is-shaped (bytesOf r) (record { type = w .type; typed = e; long = n ∙ long-is r w }) in
+    let b : fieldsOf (bytesOf r) ≡ r = bytes-again r g (w .type) (w .typed) (w .empty) in
     ap readOf t ∙ accepted (bytesOf r) s (ap lawfulOf b ∙ l) ∙ ap acceptedOf b

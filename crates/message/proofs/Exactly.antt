@@ -10,39 +10,38 @@ use lib.Dec.{eqb}
 use lib.ListN.{length, getD}
 use Rattle.message.specs.declared.Record.{Record}
 use Rattle.message.specs.declared.Reading.{Reading}
-use Rattle.message.specs.declared.answer.Answer.the-variants.{NoType, FieldBroken}
-use Rattle.message.specs.Reading.{lengthOf, noSale, saleAt, fieldsS, fieldsTrade, fieldsT, fieldsC, fieldsJ, fieldsOf, lawfulOf, misshapen, refusedOf, acceptedOf, judgedOf, readOf}
-use Rattle.message.specs.Layouts.{Field, Entry, Kind, S, T, X, C, J, letter, longOf, layoutOf, stands, holds, fieldOf, keeps, isZero, Each, lacked, Shaped, Obeys, Lawful}
-use Rattle.message.proofs.Letters.{Which, typed, none, which, byKind, chosen-by, long-letter, long-some, typed-by}
+use Rattle.message.specs.Reading.{lengthBy, noSale, saleAt, fieldsS, fieldsTrade, fieldsT, fieldsC, fieldsJ, fieldsOf, lawfulOf, misshapen, refusedOf, acceptedOf, judgedOf, readOf}
+use Rattle.message.specs.Layouts.{Field, Entry, MessageType, S, T, X, C, J, letterOf, lengthOf, layoutOf, stands, holds, fieldOf, keeps, isZero, Each, lacked, Shaped, Obeys, Lawful}
+use Rattle.message.proofs.Letters.{Which, typed, none, which, byType, chosen-by, long-letter, long-some, typed-by}
 use Rattle.message.proofs.Lawful.{all-each, lawful-is, is-lawful}
 
 module _ (m : List ℕ) where
   -- ---- the record of each type
 
-  abbrev pub fieldsAs : Kind → Record
-  fieldsAs k = byKind k (fieldsS m) (fieldsT m) (fieldsC m) (fieldsJ m)
+  abbrev pub fieldsAs : MessageType → Record
+  fieldsAs k = byType k (fieldsS m) (fieldsT m) (fieldsC m) (fieldsJ m)
 
-  pub fields-as : (k : Kind) → getD m 4 0 ≡ letter k → fieldsOf m ≡ fieldsAs k
+  pub fields-as : (k : MessageType) → getD m 4 0 ≡ letterOf k → fieldsOf m ≡ fieldsAs k
   unfolding fieldsOf
   fields-as k e = chosen-by (getD m 4 0) k e (fieldsS m) (fieldsT m) (fieldsC m) (fieldsJ m)
 
-  pub kind-of : fieldsOf m .kind ≡ getD m 4 0
+  pub letter-of : fieldsOf m .letter ≡ getD m 4 0
   unfolding fieldsOf fieldsS fieldsTrade fieldsJ
-  kind-of = go (which (getD m 4 0))
+  letter-of = go (which (getD m 4 0))
     where
-      at-kind : (k : Kind) → fieldsAs k .kind ≡ getD m 4 0
-      at-kind S = refl
-      at-kind T = refl
-      at-kind X = refl
-      at-kind C = refl
-      at-kind J = refl
+      at-type : (k : MessageType) → fieldsAs k .letter ≡ getD m 4 0
+      at-type S = refl
+      at-type T = refl
+      at-type X = refl
+      at-type C = refl
+      at-type J = refl
 
-      go : Which (getD m 4 0) → fieldsOf m .kind ≡ getD m 4 0
-      go (typed k e) = ap (λ (r : Record). r .kind) (fields-as k e) ∙ at-kind k
+      go : Which (getD m 4 0) → fieldsOf m .letter ≡ getD m 4 0
+      go (typed k e) = ap (λ (r : Record). r .letter) (fields-as k e) ∙ at-type k
       go (none s t x c j) = simp (s, c, j)
 
   -- every field of the layout stands at its place, every other is zero
-  stood-as : (k : Kind) → Each (λ e. holds (fieldOf e) (fieldsAs k) ≡ stands e m) (layoutOf k)
+  stood-as : (k : MessageType) → Each (λ e. holds (fieldOf e) (fieldsAs k) ≡ stands e m) (layoutOf k)
   unfolding layoutOf holds stands fieldsS fieldsTrade fieldsJ saleAt
   stood-as S = (refl, (refl, (refl, tt)))
   stood-as T = (refl, (refl, (refl, (refl, (refl, (refl, (refl, (refl, (refl, (refl, tt))))))))))
@@ -50,7 +49,7 @@ module _ (m : List ℕ) where
   stood-as C = (refl, (refl, (refl, (refl, (refl, (refl, (refl, (refl, (refl, (refl, (refl, (refl, (refl, (refl, tt))))))))))))))
   stood-as J = (refl, (refl, (refl, (refl, (refl, (refl, (refl, (refl, tt))))))))
 
-  lacks-as : (k : Kind) → Each (λ f. isZero (holds f (fieldsAs k)) ≡ true) (lacked k)
+  lacks-as : (k : MessageType) → Each (λ f. isZero (holds f (fieldsAs k)) ≡ true) (lacked k)
   unfolding layoutOf lacked holds isZero fieldsS fieldsTrade fieldsJ
   lacks-as S = all-each (λ f. isZero (holds f (fieldsS m))) (lacked S) refl
   lacks-as T = all-each (λ f. isZero (holds f (fieldsT m))) (lacked T) refl
@@ -58,7 +57,7 @@ module _ (m : List ℕ) where
   lacks-as C = all-each (λ f. isZero (holds f (fieldsC m))) (lacked C) refl
   lacks-as J = all-each (λ f. isZero (holds f (fieldsJ m))) (lacked J) refl
 
-  module _ (k : Kind) (e : getD m 4 0 ≡ letter k) where
+  module _ (k : MessageType) (e : getD m 4 0 ≡ letterOf k) where
     pub stood : Each (λ e. holds (fieldOf e) (fieldsOf m) ≡ stands e m) (layoutOf k)
     stood = subst (λ (r : Record). Each (λ e. holds (fieldOf e) r ≡ stands e m) (layoutOf k)) (sym (fields-as k e)) (stood-as k)
 
@@ -72,13 +71,13 @@ module _ (m : List ℕ) where
   either-false false false e = let z : _≡_ {A = ℕ} 0 1 = cc in absurd (omega arith)
   either-false true b e = let z : _≡_ {A = ℕ} 0 1 = cc in absurd (omega arith)
 
-  pub shape-parts : misshapen m ≡ false → (lengthOf (getD m 4 0) ≡ 0 → ⊥) × (length m ≡ lengthOf (getD m 4 0))
+  pub shape-parts : misshapen m ≡ false → (lengthBy (getD m 4 0) ≡ 0 → ⊥) × (length m ≡ lengthBy (getD m 4 0))
   shape-parts e =
-      let p = either-false (eqb (lengthOf (getD m 4 0)) 0) (eqb (length m) (lengthOf (getD m 4 0))) e in
+      let p = either-false (eqb (lengthBy (getD m 4 0)) 0) (eqb (length m) (lengthBy (getD m 4 0))) e in
       (eqb-false _ _ (p .0), eqb-true _ _ (p .1))
 
-  abbrev shaped-at : misshapen m ≡ false → (k : Kind) → getD m 4 0 ≡ letter k → Shaped m
-  shaped-at e k t = record { kind = k; typed = t; long = shape-parts e .1 ∙ ap lengthOf t ∙ long-letter k }
+  abbrev shaped-at : misshapen m ≡ false → (k : MessageType) → getD m 4 0 ≡ letterOf k → Shaped m
+  shaped-at e k t = record { type = k; typed = t; long = shape-parts e .1 ∙ ap lengthBy t ∙ long-letter k }
 
   pub shaped-is : misshapen m ≡ false → Shaped m
   shaped-is e =
@@ -86,15 +85,15 @@ module _ (m : List ℕ) where
       shaped-at e (k .0) (k .1)
 
   pub is-shaped : Shaped m → misshapen m ≡ false
-  is-shaped s = go (s .kind) (s .typed) (s .long)
+  is-shaped s = go (s .type) (s .typed) (s .long)
     where
       flat : (n k : ℕ) → n ≡ k → (k ≡ 0 → ⊥) → (eqb k 0 || not (eqb n k)) ≡ false
       flat n k e h = rw (ne-eqb k 0 h, eq-eqb n k e)
 
-      go : (k : Kind) → getD m 4 0 ≡ letter k → length m ≡ longOf k → misshapen m ≡ false
+      go : (k : MessageType) → getD m 4 0 ≡ letterOf k → length m ≡ lengthOf k → misshapen m ≡ false
       go k t l =
-          let w : lengthOf (getD m 4 0) ≡ longOf k = ap lengthOf t ∙ long-letter k in
-          flat (length m) (lengthOf (getD m 4 0)) (l ∙ sym w) (λ z. long-some k (sym w ∙ z))
+          let w : lengthBy (getD m 4 0) ≡ lengthOf k = ap lengthBy t ∙ long-letter k in
+          flat (length m) (lengthBy (getD m 4 0)) (l ∙ sym w) (λ z. long-some k (sym w ∙ z))
 
   -- ---- a message obeys its layout exactly if it is not misshapen and its record passes
 
@@ -111,21 +110,21 @@ module _ (m : List ℕ) where
   pub obeys-is : misshapen m ≡ false → lawfulOf (fieldsOf m) ≡ true → Obeys m
   obeys-is e o =
       let w = lawful-is (fieldsOf m) o in
-      let t : getD m 4 0 ≡ letter (w .kind) = sym kind-of ∙ w .typed in
-      record { shape = shaped-at e (w .kind) t; kept = each-stands (fieldsOf m) (layoutOf (w .kind)) (stood (w .kind) t) (w .kept) }
+      let t : getD m 4 0 ≡ letterOf (w .type) = sym letter-of ∙ w .typed in
+      record { shape = shaped-at e (w .type) t; kept = each-stands (fieldsOf m) (layoutOf (w .type)) (stood (w .type) t) (w .kept) }
 
   pub is-obeys : Obeys m → lawfulOf (fieldsOf m) ≡ true
   is-obeys o =
-      let k = o .shape .kind in
+      let k = o .shape .type in
       let t = o .shape .typed in
       is-lawful (fieldsOf m)
-      (record { kind = k; typed = kind-of ∙ t; kept = each-holds (fieldsOf m) (layoutOf k) (stood k t) (o .kept); empty = lacks k t })
+      (record { type = k; typed = letter-of ∙ t; kept = each-holds (fieldsOf m) (layoutOf k) (stood k t) (o .kept); empty = lacks k t })
 
   -- ---- the three answers of the reader
 
   pub data Said : Type 0 where
-    unshaped : misshapen m ≡ true → readOf m ≡ refusedOf NoType → Said
-    unkept : misshapen m ≡ false → lawfulOf (fieldsOf m) ≡ false → readOf m ≡ refusedOf FieldBroken → Said
+    unshaped : misshapen m ≡ true → readOf m ≡ refusedOf 4 → Said
+    unkept : misshapen m ≡ false → lawfulOf (fieldsOf m) ≡ false → readOf m ≡ refusedOf 5 → Said
     obeyed : misshapen m ≡ false → lawfulOf (fieldsOf m) ≡ true → readOf m ≡ acceptedOf (fieldsOf m) → Said
 
   pub said : Said

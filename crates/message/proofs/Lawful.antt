@@ -8,8 +8,8 @@ use borrow.Author.Tests.{eq-eqb}
 use lib.Dec.{eqb}
 use Rattle.message.specs.declared.Record.{Record}
 use Rattle.message.specs.Reading.{saleOk, saleNone, pricesNone, tradeOk, lawfulS, lawfulT, lawfulC, lawfulJ, lawfulOf}
-use Rattle.message.proofs.Letters.{byKind, lawful-by, lawful-typed}
-use Rattle.message.specs.Layouts.{Field, Entry, Kind, S, T, X, C, J, letter, layoutOf, holds, fieldOf, keeps, isZero, Each, lacked, Lawful}
+use Rattle.message.proofs.Letters.{byType, lawful-by, lawful-typed}
+use Rattle.message.specs.Layouts.{Field, Entry, MessageType, S, T, X, C, J, letterOf, layoutOf, holds, fieldOf, keeps, isZero, Each, lacked, Lawful}
 
 -- ---- a test of each element, and what it says
 
@@ -36,34 +36,34 @@ module _ (r : Record) where
   abbrev pub emptyIn : Field → Bool
   emptyIn f = isZero (holds f r)
 
-  abbrev pub lawfulAs : Kind → Bool
+  abbrev pub lawfulAs : MessageType → Bool
   lawfulAs k = allOf keptIn (layoutOf k) && allOf emptyIn (lacked k)
 
-  as-S : eqb (r .kind) 83 ≡ true → lawfulS r ≡ lawfulAs S
+  as-S : eqb (r .letter) 83 ≡ true → lawfulS r ≡ lawfulAs S
   unfolding layoutOf lacked keeps holds isZero lawfulS saleNone pricesNone
   as-S e = simp (e, and-assoc, and-true)
 
-  as-T : eqb (r .kind) 84 ≡ true → lawfulT r ≡ lawfulAs T
+  as-T : eqb (r .letter) 84 ≡ true → lawfulT r ≡ lawfulAs T
   unfolding layoutOf lacked keeps holds isZero lawfulT tradeOk saleOk saleNone pricesNone
   as-T e = simp (e, and-assoc, and-true)
 
-  as-X : eqb (r .kind) 88 ≡ true → lawfulT r ≡ lawfulAs X
+  as-X : eqb (r .letter) 88 ≡ true → lawfulT r ≡ lawfulAs X
   unfolding layoutOf lacked keeps holds isZero lawfulT tradeOk saleOk saleNone pricesNone
   as-X e = simp (e, and-assoc, and-true)
 
-  as-C : eqb (r .kind) 67 ≡ true → lawfulC r ≡ lawfulAs C
+  as-C : eqb (r .letter) 67 ≡ true → lawfulC r ≡ lawfulAs C
   unfolding layoutOf lacked keeps holds isZero lawfulC tradeOk saleOk pricesNone
   as-C e = simp (e, and-assoc, and-true)
 
-  as-J : eqb (r .kind) 74 ≡ true → lawfulJ r ≡ lawfulAs J
+  as-J : eqb (r .letter) 74 ≡ true → lawfulJ r ≡ lawfulAs J
   unfolding layoutOf lacked keeps holds isZero lawfulJ saleNone
   as-J e = simp (e, and-assoc, and-true)
 
   -- the working test is the layouts' test of the record's type
-  pub lawful-as : (k : Kind) → r .kind ≡ letter k → lawfulOf r ≡ lawfulAs k
+  pub lawful-as : (k : MessageType) → r .letter ≡ letterOf k → lawfulOf r ≡ lawfulAs k
   lawful-as k e = lawful-by r k e ∙ go k (eq-eqb _ _ e)
     where
-      go : (k : Kind) → eqb (r .kind) (letter k) ≡ true → byKind k (lawfulS r) (lawfulT r) (lawfulC r) (lawfulJ r) ≡ lawfulAs k
+      go : (k : MessageType) → eqb (r .letter) (letterOf k) ≡ true → byType k (lawfulS r) (lawfulT r) (lawfulC r) (lawfulJ r) ≡ lawfulAs k
       go S t = as-S t
       go T t = as-T t
       go X t = as-X t
@@ -75,7 +75,7 @@ module _ (r : Record) where
       let k = lawful-typed r o in
       let p = and-eq-true-iff (allOf keptIn (layoutOf (k .0))) (allOf emptyIn (lacked (k .0))) .0 (sym (lawful-as (k .0) (k .1)) ∙ o) in
       record {
-        kind = k .0;
+        type = k .0;
         typed = k .1;
         kept = all-each keptIn (layoutOf (k .0)) (p .0);
         empty = all-each emptyIn (lacked (k .0)) (p .1);
@@ -83,6 +83,6 @@ module _ (r : Record) where
 
   pub is-lawful : Lawful r → lawfulOf r ≡ true
   is-lawful w =
-      lawful-as (w .kind) (w .typed)
-      ∙ and-eq-true-iff (allOf keptIn (layoutOf (w .kind))) (allOf emptyIn (lacked (w .kind))) .1
-      (each-all keptIn (layoutOf (w .kind)) (w .kept), each-all emptyIn (lacked (w .kind)) (w .empty))
+      lawful-as (w .type) (w .typed)
+      ∙ and-eq-true-iff (allOf keptIn (layoutOf (w .type))) (allOf emptyIn (lacked (w .type))) .1
+      (each-all keptIn (layoutOf (w .type)) (w .kept), each-all emptyIn (lacked (w .type)) (w .empty))

@@ -7,11 +7,11 @@ use native.Mathlib.Omega.{arith}
 use borrow.Author.Tests.{eqb-true}
 use lib.Dec.{eqb}
 use Rattle.message.specs.declared.Record.{Record}
-use Rattle.message.specs.Layouts.{Kind, S, T, X, C, J, letter, longOf}
-use Rattle.message.specs.Reading.{lengthOf, lawfulS, lawfulT, lawfulC, lawfulJ, lawfulOf}
+use Rattle.message.specs.Layouts.{MessageType, S, T, X, C, J, letterOf, lengthOf}
+use Rattle.message.specs.Reading.{lengthBy, lawfulS, lawfulT, lawfulC, lawfulJ, lawfulOf}
 
 pub data Which (k : ℕ) : Type 0 where
-  typed : (t : Kind) → k ≡ letter t → Which k
+  typed : (t : MessageType) → k ≡ letterOf t → Which k
   none : eqb k 83 ≡ false → eqb k 84 ≡ false → eqb k 88 ≡ false → eqb k 67 ≡ false → eqb k 74 ≡ false → Which k
 
 pub which : (k : ℕ) → Which k
@@ -39,18 +39,18 @@ which k = at-s (eqb k 83) refl
 
 -- ---- what is chosen by the letter: one thing for S, one for T and X, one for C, one for J
 
-abbrev pub byKind : {A : Type 0} → Kind → A → A → A → A → A
-byKind S s t c j = s
-byKind T s t c j = t
-byKind X s t c j = t
-byKind C s t c j = c
-byKind J s t c j = j
+abbrev pub byType : {A : Type 0} → MessageType → A → A → A → A → A
+byType S s t c j = s
+byType T s t c j = t
+byType X s t c j = t
+byType C s t c j = c
+byType J s t c j = j
 
-pub chosen-by : {A : Type 0} (x : ℕ) (k : Kind) → x ≡ letter k → (s t c j : A)
-    → cond (eqb x 83) s (cond (eqb x 67) c (cond (eqb x 74) j t)) ≡ byKind k s t c j
+pub chosen-by : {A : Type 0} (x : ℕ) (k : MessageType) → x ≡ letterOf k → (s t c j : A)
+    → cond (eqb x 83) s (cond (eqb x 67) c (cond (eqb x 74) j t)) ≡ byType k s t c j
 chosen-by x k e s t c j = rw e (at-letter k)
   where
-    at-letter : (k : Kind) → cond (eqb (letter k) 83) s (cond (eqb (letter k) 67) c (cond (eqb (letter k) 74) j t)) ≡ byKind k s t c j
+    at-letter : (k : MessageType) → cond (eqb (letterOf k) 83) s (cond (eqb (letterOf k) 67) c (cond (eqb (letterOf k) 74) j t)) ≡ byType k s t c j
     at-letter S = refl
     at-letter T = refl
     at-letter X = refl
@@ -59,15 +59,15 @@ chosen-by x k e s t c j = rw e (at-letter k)
 
 -- ---- the length that goes with a letter
 
-pub long-letter : (k : Kind) → lengthOf (letter k) ≡ longOf k
-unfolding lengthOf
+pub long-letter : (k : MessageType) → lengthBy (letterOf k) ≡ lengthOf k
+unfolding lengthBy
 long-letter S = refl
 long-letter T = refl
 long-letter X = refl
 long-letter C = refl
 long-letter J = refl
 
-pub long-some : (k : Kind) → longOf k ≡ 0 → ⊥
+pub long-some : (k : MessageType) → lengthOf k ≡ 0 → ⊥
 long-some S z = omega arith
 long-some T z = omega arith
 long-some X z = omega arith
@@ -75,23 +75,23 @@ long-some C z = omega arith
 long-some J z = omega arith
 
 -- a letter that has a length is of a type
-pub typed-by : (k : ℕ) → (lengthOf k ≡ 0 → ⊥) → (t : Kind) × (k ≡ letter t)
-unfolding lengthOf
+pub typed-by : (k : ℕ) → (lengthBy k ≡ 0 → ⊥) → (t : MessageType) × (k ≡ letterOf t)
+unfolding lengthBy
 typed-by k h = go (which k)
   where
-    go : Which k → (t : Kind) × (k ≡ letter t)
+    go : Which k → (t : MessageType) × (k ≡ letterOf t)
     go (typed t e) = (t, e)
     go (none s t x c j) = absurd (h (simp (s, t, x, c, j)))
 
 -- ---- the rules that go with a letter
 
-pub lawful-by : (r : Record) (k : Kind) → r .kind ≡ letter k → lawfulOf r ≡ byKind k (lawfulS r) (lawfulT r) (lawfulC r) (lawfulJ r)
+pub lawful-by : (r : Record) (k : MessageType) → r .letter ≡ letterOf k → lawfulOf r ≡ byType k (lawfulS r) (lawfulT r) (lawfulC r) (lawfulJ r)
 unfolding lawfulOf
-lawful-by r k e = chosen-by (r .kind) k e (lawfulS r) (cond (eqb (r .kind) 84 || eqb (r .kind) 88) (lawfulT r) false) (lawfulC r) (lawfulJ r) ∙ trade k e
+lawful-by r k e = chosen-by (r .letter) k e (lawfulS r) (cond (eqb (r .letter) 84 || eqb (r .letter) 88) (lawfulT r) false) (lawfulC r) (lawfulJ r) ∙ trade k e
   where
-    trade : (k : Kind) → r .kind ≡ letter k
-        → byKind k (lawfulS r) (cond (eqb (r .kind) 84 || eqb (r .kind) 88) (lawfulT r) false) (lawfulC r) (lawfulJ r)
-        ≡ byKind k (lawfulS r) (lawfulT r) (lawfulC r) (lawfulJ r)
+    trade : (k : MessageType) → r .letter ≡ letterOf k
+        → byType k (lawfulS r) (cond (eqb (r .letter) 84 || eqb (r .letter) 88) (lawfulT r) false) (lawfulC r) (lawfulJ r)
+        ≡ byType k (lawfulS r) (lawfulT r) (lawfulC r) (lawfulJ r)
     trade S e = refl
     trade T e = ap (λ (x : ℕ). cond (eqb x 84 || eqb x 88) (lawfulT r) false) e
     trade X e = ap (λ (x : ℕ). cond (eqb x 84 || eqb x 88) (lawfulT r) false) e
@@ -99,11 +99,11 @@ lawful-by r k e = chosen-by (r .kind) k e (lawfulS r) (cond (eqb (r .kind) 84 ||
     trade J e = refl
 
 -- a record that passes has the letter of a type
-pub lawful-typed : (r : Record) → lawfulOf r ≡ true → (k : Kind) × (r .kind ≡ letter k)
+pub lawful-typed : (r : Record) → lawfulOf r ≡ true → (k : MessageType) × (r .letter ≡ letterOf k)
 unfolding lawfulOf
-lawful-typed r o = go (which (r .kind))
+lawful-typed r o = go (which (r .letter))
   where
-    go : Which (r .kind) → (k : Kind) × (r .kind ≡ letter k)
+    go : Which (r .letter) → (k : MessageType) × (r .letter ≡ letterOf k)
     go (typed k e) = (k, e)
     go (none s t x c j) =
         let f : false ≡ true = simp (s, t, x, c, j) at o in

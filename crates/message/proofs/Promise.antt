@@ -54,9 +54,7 @@ module _ (κs : Lfts 1) (a : ArgsD write.signature κs) where
 pub number-one : (a e e′ : Answer) (r r′ : ℕ) → number-reads.Learnt tt (a, tt) r (e, tt) → number-reads.Learnt tt (a, tt) r′ (e′, tt) → r ≡ r′
 number-one a e e′ r r′ h h′ = h ∙ sym h′
 
--- no two answers share a number
 number-back : (a : Answer) → answerOf (numberOf a) ≡ a
-unfolding answerOf
 number-back Done = refl
 number-back NumberOutside = refl
 number-back NumberBelow = refl
@@ -77,5 +75,6 @@ number-back RowsFull = refl
 number-back Unsound = refl
 number-back NoSpace = refl
 
-pub numbers-differ : (a b : Answer) → numberOf a ≡ numberOf b → a ≡ b
-numbers-differ a b e = sym (number-back a) ∙ ap answerOf e ∙ number-back b
+-- no two answers share a number
+pub one-number-each : (a b : Answer) → numberOf a ≡ numberOf b → a ≡ b
+one-number-each a b e = sym (number-back a) ∙ ap answerOf e ∙ number-back b

@@ -12,10 +12,10 @@ use Rattle.octets.proofs.Laws.{sets-then, digits-length}
 use Rattle.message.specs.declared.Sale.{Sale}
 use Rattle.message.specs.declared.Record.{Record}
 use Rattle.message.specs.Fits.{SaleFits, RecordFits}
-use Rattle.message.specs.Reading.{lengthOf, lawfulOf}
+use Rattle.message.specs.Reading.{lengthBy, lawfulOf}
 use Rattle.message.specs.Writing.{saleBytes, headBytes, priceBytes, bytesS, bytesT, bytesC, bytesJ, bytesOf}
-use Rattle.message.specs.Layouts.{Kind, S, T, X, C, J, letter, longOf}
-use Rattle.message.proofs.Letters.{byKind, chosen-by, long-letter, lawful-typed}
+use Rattle.message.specs.Layouts.{MessageType, S, T, X, C, J, letterOf, lengthOf}
+use Rattle.message.proofs.Letters.{byType, chosen-by, long-letter, lawful-typed}
 
 -- ---- lengths
 
@@ -73,17 +73,17 @@ prices-stored l at r =
     ∙ sets-then h (o ++ d) l at (at + 4) (rw (digits-length 4 (r .high)))
 
 module _ (l : List ℕ) (r : Record) where
-  pub s-stored : set (set (sets l 0 (digits 4 (r .time))) 4 (r .kind)) 5 (r .event) ≡ sets l 0 (bytesS r)
+  pub s-stored : set (set (sets l 0 (digits 4 (r .time))) 4 (r .letter)) 5 (r .event) ≡ sets l 0 (bytesS r)
   unfolding bytesS
-  s-stored = sets-then (digits 4 (r .time)) (r .kind ∷ r .event ∷ []) l 0 4 (omega (arith, digits-length 4 (r .time)))
+  s-stored = sets-then (digits 4 (r .time)) (r .letter ∷ r .event ∷ []) l 0 4 (omega (arith, digits-length 4 (r .time)))
 
   pub head-stored : length (r .symbol) ≡ 8
-      → set (sets (set (set (sets l 0 (digits 4 (r .time))) 4 (r .kind)) 5 (r .centre)) 6 (r .symbol)) 14 (r .class) ≡ sets l 0 (headBytes r)
+      → set (sets (set (set (sets l 0 (digits 4 (r .time))) 4 (r .letter)) 5 (r .centre)) 6 (r .symbol)) 14 (r .class) ≡ sets l 0 (headBytes r)
   unfolding headBytes
   head-stored e =
       let t = digits 4 (r .time) in
-      sets-then (r .symbol) (r .class ∷ []) (set (set (sets l 0 t) 4 (r .kind)) 5 (r .centre)) 6 14 (rw e)
-      ∙ sets-then t (r .kind ∷ r .centre ∷ (r .symbol ++ (r .class ∷ []))) l 0 4 (omega (arith, digits-length 4 (r .time)))
+      sets-then (r .symbol) (r .class ∷ []) (set (set (sets l 0 t) 4 (r .letter)) 5 (r .centre)) 6 14 (rw e)
+      ∙ sets-then t (r .letter ∷ r .centre ∷ (r .symbol ++ (r .class ∷ []))) l 0 4 (omega (arith, digits-length 4 (r .time)))
 
   module _ (g : Long r) where
     pub t-stored : sets (sets (sets l 0 (headBytes r)) 15 (saleBytes (r .sale))) 37 (digits 8 (r .consolidated)) ≡ sets l 0 (bytesT r)
@@ -107,25 +107,25 @@ module _ (l : List ℕ) (r : Record) where
         ∙ sets-then h (s ++ (n ++ d)) l 0 15 (rw (head-length r (g .symbol)))
 
   pub j-stored : length (r .symbol) ≡ 8
-      → sets (sets (set (sets (set (sets l 0 (digits 4 (r .time))) 4 (r .kind)) 5 (r .symbol)) 13 (r .class)) 14 (priceBytes r)) 26 (digits 8 (r .consolidated))
+      → sets (sets (set (sets (set (sets l 0 (digits 4 (r .time))) 4 (r .letter)) 5 (r .symbol)) 13 (r .class)) 14 (priceBytes r)) 26 (digits 8 (r .consolidated))
       ≡ sets l 0 (bytesJ r)
   unfolding bytesJ
   j-stored e =
       let t = digits 4 (r .time) in
       let d = digits 8 (r .consolidated) in
-      let b = set (sets l 0 t) 4 (r .kind) in
+      let b = set (sets l 0 t) 4 (r .letter) in
       sets-then (priceBytes r) d (set (sets b 5 (r .symbol)) 13 (r .class)) 14 26 (rw (prices-length r))
       ∙ sets-then (r .symbol) (r .class ∷ (priceBytes r ++ d)) b 5 13 (rw e)
-      ∙ sets-then t (r .kind ∷ (r .symbol ++ (r .class ∷ (priceBytes r ++ d)))) l 0 4 (omega (arith, digits-length 4 (r .time)))
+      ∙ sets-then t (r .letter ∷ (r .symbol ++ (r .class ∷ (priceBytes r ++ d)))) l 0 4 (omega (arith, digits-length 4 (r .time)))
 
 -- ---- what is written is the type's, and so is its length
 
-abbrev pub bytesAs : Record → Kind → List ℕ
-bytesAs r k = byKind k (bytesS r) (bytesT r) (bytesC r) (bytesJ r)
+abbrev pub bytesAs : Record → MessageType → List ℕ
+bytesAs r k = byType k (bytesS r) (bytesT r) (bytesC r) (bytesJ r)
 
-pub bytes-as : (r : Record) (k : Kind) → r .kind ≡ letter k → bytesOf r ≡ bytesAs r k
+pub bytes-as : (r : Record) (k : MessageType) → r .letter ≡ letterOf k → bytesOf r ≡ bytesAs r k
 unfolding bytesOf
-bytes-as r k e = chosen-by (r .kind) k e (bytesS r) (bytesT r) (bytesC r) (bytesJ r)
+bytes-as r k e = chosen-by (r .letter) k e (bytesS r) (bytesT r) (bytesC r) (bytesJ r)
 
 module _ (r : Record) (g : Long r) where
   s-length : length (bytesS r) ≡ 6
@@ -144,12 +144,12 @@ module _ (r : Record) (g : Long r) where
   unfolding bytesJ
   j-length = simp (length-append, digits-length, g .symbol, prices-length r)
 
-  pub bytes-length : lawfulOf r ≡ true → length (bytesOf r) ≡ lengthOf (r .kind)
+  pub bytes-length : lawfulOf r ≡ true → length (bytesOf r) ≡ lengthBy (r .letter)
   bytes-length o =
       let k = lawful-typed r o in
-      ap length (bytes-as r (k .0) (k .1)) ∙ go (k .0) ∙ sym (ap lengthOf (k .1) ∙ long-letter (k .0))
+      ap length (bytes-as r (k .0) (k .1)) ∙ go (k .0) ∙ sym (ap lengthBy (k .1) ∙ long-letter (k .0))
     where
-      go : (k : Kind) → length (bytesAs r k) ≡ longOf k
+      go : (k : MessageType) → length (bytesAs r k) ≡ lengthOf k
       go S = s-length
       go T = t-length
       go X = t-length

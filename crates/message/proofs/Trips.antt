@@ -17,11 +17,11 @@ use Rattle.octets.proofs.Trips.{be-digits, digits-part, alone, link, join, whol
 use Rattle.message.specs.declared.Sale.{Sale}
 use Rattle.message.specs.declared.Record.{Record}
 use Rattle.message.specs.Fits.{SaleFits, RecordFits}
-use Rattle.message.specs.Layouts.{Kind, S, T, X, C, J, letter, longOf, layoutOf, lacked, holds, isZero, Each}
+use Rattle.message.specs.Layouts.{MessageType, S, T, X, C, J, letterOf, lengthOf, layoutOf, lacked, holds, isZero, Each}
 use Rattle.message.specs.Reading.{noSale, saleAt, fieldsS, fieldsTrade, fieldsT, fieldsC, fieldsJ, fieldsOf}
 use Rattle.message.specs.Writing.{saleBytes, headBytes, priceBytes, bytesS, bytesT, bytesC, bytesJ, bytesOf}
 use Rattle.message.proofs.Stores.{sale-length, head-length, bytes-as, bytesAs}
-use Rattle.message.proofs.Exactly.{fieldsAs, fields-as, kind-of}
+use Rattle.message.proofs.Exactly.{fieldsAs, fields-as, letter-of}
 
 -- ---- read, then written
 
@@ -83,10 +83,10 @@ module _ (m : List ℕ) (b : Bytes m) where
       ) (whole m 34 h)
 
   -- the bytes of the record that a message fills are the message
-  pub fields-again : (k : Kind) → getD m 4 0 ≡ letter k → length m ≡ longOf k → bytesOf (fieldsOf m) ≡ m
-  fields-again k e h = bytes-as (fieldsOf m) k (kind-of m ∙ e) ∙ ap (λ (r : Record). bytesAs r k) (fields-as m k e) ∙ go k h
+  pub fields-again : (k : MessageType) → getD m 4 0 ≡ letterOf k → length m ≡ lengthOf k → bytesOf (fieldsOf m) ≡ m
+  fields-again k e h = bytes-as (fieldsOf m) k (letter-of m ∙ e) ∙ ap (λ (r : Record). bytesAs r k) (fields-as m k e) ∙ go k h
     where
-      go : (k : Kind) → length m ≡ longOf k → bytesAs (fieldsAs m k) k ≡ m
+      go : (k : MessageType) → length m ≡ lengthOf k → bytesAs (fieldsAs m k) k ≡ m
       go S h = s-again h
       go T h = t-again h
       go X h = t-again h
@@ -100,9 +100,9 @@ sale-of : (s : Sale) (c : List ℕ) (p z : ℕ) (d : List ℕ) → c ≡ s .cont
 sale-of s c p z d e f g h = rw (e, f, g, h)
 
 record-of : (r : Record) (k t e c : ℕ) (y : List ℕ) (l : ℕ) (o n : Sale) (h w z v : ℕ)
-    → k ≡ r .kind → t ≡ r .time → e ≡ r .event → c ≡ r .centre → y ≡ r .symbol → l ≡ r .class → o ≡ r .sale → n ≡ r .new → h ≡ r .high → w ≡ r .low → z ≡ r .close → v ≡ r .consolidated
+    → k ≡ r .letter → t ≡ r .time → e ≡ r .event → c ≡ r .centre → y ≡ r .symbol → l ≡ r .class → o ≡ r .sale → n ≡ r .new → h ≡ r .high → w ≡ r .low → z ≡ r .close → v ≡ r .consolidated
     → _≡_ {A = Record}
-    (record { kind = k; time = t; event = e; centre = c; symbol = y; class = l; sale = o; new = n; high = h; low = w; close = z; consolidated = v }) r
+    (record { letter = k; time = t; event = e; centre = c; symbol = y; class = l; sale = o; new = n; high = h; low = w; close = z; consolidated = v }) r
 record-of r k t e c y l o n h w z v p1 p2 p3 p4 p5 p6 p7 p8 p9 p10 p11 p12 = rw (p1, p2, p3, p4, p5, p6, p7, p8, p9, p10, p11, p12)
 
 -- a number that was written is read
@@ -155,8 +155,8 @@ module _ (r : Record) (g : RecordFits r) where
     unfolding fieldsTrade headBytes
     trade-here n v e s h l k q =
         let rest = saleBytes (r .sale) ++ tail in
-        let w0 : drop 0 m ≡ digits 4 (r .time) ++ (r .kind ∷ r .centre ∷ (r .symbol ++ (r .class ∷ rest))) = d0 ∙ simp append-assoc in
-        let w4 : drop 4 m ≡ r .kind ∷ r .centre ∷ (r .symbol ++ (r .class ∷ rest)) = walk m 0 4 4 (digits 4 (r .time)) _ w0 (digits-length 4 (r .time)) refl in
+        let w0 : drop 0 m ≡ digits 4 (r .time) ++ (r .letter ∷ r .centre ∷ (r .symbol ++ (r .class ∷ rest))) = d0 ∙ simp append-assoc in
+        let w4 : drop 4 m ≡ r .letter ∷ r .centre ∷ (r .symbol ++ (r .class ∷ rest)) = walk m 0 4 4 (digits 4 (r .time)) _ w0 (digits-length 4 (r .time)) refl in
         let w5 : drop 5 m ≡ r .centre ∷ (r .symbol ++ (r .class ∷ rest)) = step m 4 _ _ w4 in
         let w6 : drop 6 m ≡ r .symbol ++ (r .class ∷ rest) = step m 5 _ _ w5 in
         let w14 : drop 14 m ≡ r .class ∷ rest = walk m 6 8 14 (r .symbol) _ w6 (g .symbol) refl in
@@ -174,17 +174,17 @@ module _ (r : Record) (g : RecordFits r) where
         (zero-is (r .close) k)
         q
 
-  at-4 : (m tail : List ℕ) → m ≡ digits 4 (r .time) ++ (r .kind ∷ tail) → getD m 4 0 ≡ r .kind
+  at-4 : (m tail : List ℕ) → m ≡ digits 4 (r .time) ++ (r .letter ∷ tail) → getD m 4 0 ≡ r .letter
   at-4 m tail d = first m 4 _ _ (walk m 0 4 4 (digits 4 (r .time)) _ d (digits-length 4 (r .time)) refl)
 
-  head-4 : (rest : List ℕ) → getD (headBytes r ++ rest) 4 0 ≡ r .kind
+  head-4 : (rest : List ℕ) → getD (headBytes r ++ rest) 4 0 ≡ r .letter
   unfolding headBytes
   head-4 rest =
       at-4 (headBytes r ++ rest) ((r .centre ∷ (r .symbol ++ (r .class ∷ []))) ++ rest)
-      (append-assoc (digits 4 (r .time)) (r .kind ∷ r .centre ∷ (r .symbol ++ (r .class ∷ []))) rest)
+      (append-assoc (digits 4 (r .time)) (r .letter ∷ r .centre ∷ (r .symbol ++ (r .class ∷ []))) rest)
 
   -- the fields that a type lacks are zero
-  abbrev pub Empty : Kind → Type 0
+  abbrev pub Empty : MessageType → Type 0
   Empty k = Each (λ f. isZero (holds f r) ≡ true) (lacked k)
 
   t-back : Empty T → fieldsT (bytesT r) ≡ r
@@ -208,8 +208,8 @@ module _ (r : Record) (g : RecordFits r) where
   unfolding fieldsS bytesS lacked layoutOf holds isZero
   s-back e =
       let m = bytesS r in
-      let w0 : drop 0 m ≡ digits 4 (r .time) ++ (r .kind ∷ r .event ∷ []) = refl in
-      let w4 : drop 4 m ≡ r .kind ∷ r .event ∷ [] = walk m 0 4 4 (digits 4 (r .time)) _ w0 (digits-length 4 (r .time)) refl in
+      let w0 : drop 0 m ≡ digits 4 (r .time) ++ (r .letter ∷ r .event ∷ []) = refl in
+      let w4 : drop 4 m ≡ r .letter ∷ r .event ∷ [] = walk m 0 4 4 (digits 4 (r .time)) _ w0 (digits-length 4 (r .time)) refl in
       let w5 : drop 5 m ≡ r .event ∷ [] = step m 4 _ _ w4 in
       record-of r _ _ _ _ _ _ _ _ _ _ _ _
       (first m 4 _ _ w4)
@@ -233,8 +233,8 @@ module _ (r : Record) (g : RecordFits r) where
       let l = digits 4 (r .low) in
       let k = digits 4 (r .close) in
       let v = digits 8 (r .consolidated) in
-      let w0 : drop 0 m ≡ digits 4 (r .time) ++ (r .kind ∷ (r .symbol ++ (r .class ∷ (h ++ (l ++ (k ++ v)))))) = simp append-assoc in
-      let w4 : drop 4 m ≡ r .kind ∷ (r .symbol ++ (r .class ∷ (h ++ (l ++ (k ++ v))))) = walk m 0 4 4 (digits 4 (r .time)) _ w0 (digits-length 4 (r .time)) refl in
+      let w0 : drop 0 m ≡ digits 4 (r .time) ++ (r .letter ∷ (r .symbol ++ (r .class ∷ (h ++ (l ++ (k ++ v)))))) = simp append-assoc in
+      let w4 : drop 4 m ≡ r .letter ∷ (r .symbol ++ (r .class ∷ (h ++ (l ++ (k ++ v))))) = walk m 0 4 4 (digits 4 (r .time)) _ w0 (digits-length 4 (r .time)) refl in
       let w5 : drop 5 m ≡ r .symbol ++ (r .class ∷ (h ++ (l ++ (k ++ v)))) = step m 4 _ _ w4 in
       let w13 : drop 13 m ≡ r .class ∷ (h ++ (l ++ (k ++ v))) = walk m 5 8 13 (r .symbol) _ w5 (g .symbol) refl in
       let w14 : drop 14 m ≡ h ++ (l ++ (k ++ v)) = step m 13 _ _ w13 in
@@ -256,7 +256,7 @@ module _ (r : Record) (g : RecordFits r) where
       (number-last m 26 8 (r .consolidated) (g .consolidated) w26)
 
   -- the letter stands at 4 in every type
-  letter-here : (k : Kind) → getD (bytesAs r k) 4 0 ≡ r .kind
+  letter-here : (k : MessageType) → getD (bytesAs r k) 4 0 ≡ r .letter
   unfolding bytesS bytesT bytesC bytesJ
   letter-here S = at-4 (bytesS r) _ refl
   letter-here T = head-4 _
@@ -264,16 +264,16 @@ module _ (r : Record) (g : RecordFits r) where
   letter-here C = head-4 _
   letter-here J = at-4 (bytesJ r) _ refl
 
-  pub letter-again : (k : Kind) → r .kind ≡ letter k → getD (bytesOf r) 4 0 ≡ letter k
+  pub letter-again : (k : MessageType) → r .letter ≡ letterOf k → getD (bytesOf r) 4 0 ≡ letterOf k
   letter-again k e = ap (λ (m : List ℕ). getD m 4 0) (bytes-as r k e) ∙ letter-here k ∙ e
 
   -- the record that a record's bytes fill is the record
-  pub bytes-again : (k : Kind) → r .kind ≡ letter k → Empty k → fieldsOf (bytesOf r) ≡ r
+  pub bytes-again : (k : MessageType) → r .letter ≡ letterOf k → Empty k → fieldsOf (bytesOf r) ≡ r
   unfolding lacked layoutOf
   bytes-again k e z =
       ap fieldsOf (bytes-as r k e) ∙ fields-as (bytesAs r k) k (letter-here k ∙ e) ∙ go k z
     where
-      go : (k : Kind) → Empty k → fieldsAs (bytesAs r k) k ≡ r
+      go : (k : MessageType) → Empty k → fieldsAs (bytesAs r k) k ≡ r
       go S z = s-back z
       go T z = t-back z
       go X z = t-back z

@@ -1,4 +1,5 @@
--- What each call says back: the table's number of each answer, and the answer of each number.
+-- What each call says back: the number in document 01's table of each answer, and the answer of each number. The
+-- promises are stated in these numbers.
 -- Assumes nothing.
 use Prim.Native.Nat.{ℕ}
 use mathlib.Core.Bool.{cond}
@@ -46,8 +47,8 @@ numberOf Unsound = 17
 -- writer: lent space shorter than the message
 numberOf NoSpace = 18
 
--- the answer that bears a number of the table
-unfoldable pub answerOf : ℕ → Answer
+-- the answer that bears a number of the table, which ends at 18
+abbrev pub answerOf : ℕ → Answer
 answerOf n =
     cond (eqb n 0) Done
     (cond (eqb n 1) NumberOutside

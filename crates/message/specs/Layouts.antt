@@ -16,9 +16,9 @@ use Rattle.message.specs.declared.Record.{Record}
 
 -- ---- the table of layouts
 
--- the fields, by their names in the table; `type` is the letter
+-- the fields, by their names in the table; `letter` is the one that names the type
 pub data Field : Type 0 where
-  time type event centre symbol class control price size condition : Field
+  time letter event centre symbol class control price size condition : Field
   newControl newPrice newSize newCondition high low close consolidated : Field
 
 -- a field of a layout: one byte at an offset, a big-endian number or a text at an offset and of a length; with its rule
@@ -28,32 +28,32 @@ pub data Entry : Type 0 where
   textAt : Field → ℕ → ℕ → (List ℕ → Bool) → Entry
 
 -- system event, trade report, trade cancel/error, trade correction, end of day trade summary
-pub data Kind : Type 0 where
-  S T X C J : Kind
+pub data MessageType : Type 0 where
+  S T X C J : MessageType
 
-abbrev pub letter : Kind → ℕ
-letter S = 83
-letter T = 84
-letter X = 88
-letter C = 67
-letter J = 74
+abbrev pub letterOf : MessageType → ℕ
+letterOf S = 83
+letterOf T = 84
+letterOf X = 88
+letterOf C = 67
+letterOf J = 74
 
-abbrev pub longOf : Kind → ℕ
-longOf S = 6
-longOf T = 45
-longOf X = 45
-longOf C = 67
-longOf J = 34
+abbrev pub lengthOf : MessageType → ℕ
+lengthOf S = 6
+lengthOf T = 45
+lengthOf X = 45
+lengthOf C = 67
+lengthOf J = 34
 
--- the byte is this letter
-abbrev pub is : ℕ → ℕ → Bool
-is l b = eqb b l
+-- the byte is a type's letter
+abbrev pub is : MessageType → ℕ → Bool
+is t b = eqb b (letterOf t)
 
 -- T to offset 36, with its letter
-abbrev pub toCondition : ℕ → List Entry
-toCondition l =
+abbrev pub toCondition : MessageType → List Entry
+toCondition t =
     numberAt time 0 4 Rules.time
-    ∷ byteAt type 4 (is l)
+    ∷ byteAt letter 4 (is t)
     ∷ byteAt centre 5 Rules.centre
     ∷ textAt symbol 6 8 Rules.text
     ∷ byteAt class 14 Rules.class
@@ -63,12 +63,12 @@ toCondition l =
     ∷ textAt condition 33 4 Rules.condition
     ∷ []
 
-unfoldable pub layoutOf : Kind → List Entry
-layoutOf S = numberAt time 0 4 Rules.time ∷ byteAt type 4 (is 83) ∷ byteAt event 5 Rules.event ∷ []
-layoutOf T = toCondition 84 ++ (numberAt consolidated 37 8 Rules.consolidated ∷ [])
-layoutOf X = toCondition 88 ++ (numberAt consolidated 37 8 Rules.consolidated ∷ [])
+unfoldable pub layoutOf : MessageType → List Entry
+layoutOf S = numberAt time 0 4 Rules.time ∷ byteAt letter 4 (is S) ∷ byteAt event 5 Rules.event ∷ []
+layoutOf T = toCondition T ++ (numberAt consolidated 37 8 Rules.consolidated ∷ [])
+layoutOf X = toCondition X ++ (numberAt consolidated 37 8 Rules.consolidated ∷ [])
 layoutOf C =
-    toCondition 67
+    toCondition C
     ++ (textAt newControl 37 10 Rules.text
     ∷ numberAt newPrice 47 4 Rules.tradePrice
     ∷ numberAt newSize 51 4 Rules.size
@@ -77,7 +77,7 @@ layoutOf C =
     ∷ [])
 layoutOf J =
     numberAt time 0 4 Rules.time
-    ∷ byteAt type 4 (is 74)
+    ∷ byteAt letter 4 (is J)
     ∷ textAt symbol 5 8 Rules.text
     ∷ byteAt class 13 Rules.class
     ∷ numberAt high 14 4 Rules.summaryPrice
@@ -101,7 +101,7 @@ stands (textAt f o n p) m = text (part m o n)
 -- what a record holds in a field
 unfoldable pub holds : Field → Record → Value
 holds time r = number (r .time)
-holds type r = number (r .kind)
+holds letter r = number (r .letter)
 holds event r = number (r .event)
 holds centre r = number (r .centre)
 holds symbol r = text (r .symbol)
@@ -147,26 +147,26 @@ Each P (x ∷ xs) = P x × Each P xs
 
 -- the byte at 4 names a type, and the length is that type's
 pub record Shaped (m : List ℕ) : Type 0 where
-  pub kind : Kind
-  pub typed : getD m 4 0 ≡ letter kind
-  pub long : length m ≡ longOf kind
+  pub type : MessageType
+  pub typed : getD m 4 0 ≡ letterOf type
+  pub long : length m ≡ lengthOf type
 
 -- and each field keeps its rule
 pub record Obeys (m : List ℕ) : Type 0 where
   pub shape : Shaped m
-  pub kept : Each (λ e. keeps e (stands e m) ≡ true) (layoutOf (shape .kind))
+  pub kept : Each (λ e. keeps e (stands e m) ≡ true) (layoutOf (shape .type))
 
 -- ---- a record keeps the rules of its type
 
-abbrev pub fields : List Field
-fields =
-    time ∷ type ∷ event ∷ centre ∷ symbol ∷ class ∷ control ∷ price ∷ size ∷ condition ∷ newControl ∷ newPrice ∷ newSize
+abbrev pub allFields : List Field
+allFields =
+    time ∷ letter ∷ event ∷ centre ∷ symbol ∷ class ∷ control ∷ price ∷ size ∷ condition ∷ newControl ∷ newPrice ∷ newSize
     ∷ newCondition ∷ high ∷ low ∷ close ∷ consolidated ∷ []
 
 -- a field's place in that list, by which two fields are told apart
 abbrev pub placeOf : Field → ℕ
 placeOf time = 0
-placeOf type = 1
+placeOf letter = 1
 placeOf event = 2
 placeOf centre = 3
 placeOf symbol = 4
@@ -190,11 +190,11 @@ without es [] = []
 without es (f ∷ fs) = cond (among (map (λ e. placeOf (fieldOf e)) es) (placeOf f)) (without es fs) (f ∷ without es fs)
 
 -- the fields that a type lacks
-unfoldable pub lacked : Kind → List Field
-lacked k = without (layoutOf k) fields
+unfoldable pub lacked : MessageType → List Field
+lacked t = without (layoutOf t) allFields
 
 pub record Lawful (r : Record) : Type 0 where
-  pub kind : Kind
-  pub typed : r .kind ≡ letter kind
-  pub kept : Each (λ e. keeps e (holds (fieldOf e) r) ≡ true) (layoutOf kind)
-  pub empty : Each (λ f. isZero (holds f r) ≡ true) (lacked kind)
+  pub type : MessageType
+  pub typed : r .letter ≡ letterOf type
+  pub kept : Each (λ e. keeps e (holds (fieldOf e) r) ≡ true) (layoutOf type)
+  pub empty : Each (λ f. isZero (holds f r) ≡ true) (lacked type)

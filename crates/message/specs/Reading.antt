@@ -1,5 +1,5 @@
 -- The reader's working definitions: a record for each type, the rules over a record, what reading says.
--- What they amount to is said by `Layouts`, and proved there.
+-- What they amount to is said by `Layouts`; that they do is proved in `proofs/Demand2`.
 -- Assumes nothing.
 use Prim.Native.Nat.{ℕ, _+_}
 use mathlib.Core.List.{List, [], _∷_}
@@ -14,11 +14,11 @@ use Rattle.message.specs.declared.Sale.{Sale}
 use Rattle.message.specs.declared.Record.{Record}
 use Rattle.message.specs.declared.Reading.{Reading}
 use Rattle.message.specs.declared.answer.Answer.{Answer}
-use Rattle.message.specs.declared.answer.Answer.the-variants.{Done, NoType, FieldBroken}
+use Rattle.message.specs.Answers.{answerOf}
 
 -- the length of a type's messages, by its letter S T X C J; 0 for any other letter
-unfoldable pub lengthOf : ℕ → ℕ
-lengthOf k = cond (eqb k 83) 6 (cond (eqb k 84) 45 (cond (eqb k 88) 45 (cond (eqb k 67) 67 (cond (eqb k 74) 34 0))))
+unfoldable pub lengthBy : ℕ → ℕ
+lengthBy k = cond (eqb k 83) 6 (cond (eqb k 84) 45 (cond (eqb k 88) 45 (cond (eqb k 67) 67 (cond (eqb k 74) 34 0))))
 
 -- ---- the record that the bytes fill
 
@@ -28,7 +28,7 @@ noSale = record { control = replicate 10 0; price = 0; size = 0; condition = rep
 abbrev pub noRecord : Record
 noRecord =
     record {
-      kind = 0;
+      letter = 0;
       time = 0;
       event = 0;
       centre = 0;
@@ -55,7 +55,7 @@ saleAt m at =
 unfoldable pub fieldsS : List ℕ → Record
 fieldsS m =
     record {
-      kind = getD m 4 0;
+      letter = getD m 4 0;
       time = be (part m 0 4);
       event = getD m 5 0;
       centre = 0;
@@ -73,7 +73,7 @@ fieldsS m =
 unfoldable pub fieldsTrade : List ℕ → Sale → ℕ → Record
 fieldsTrade m new volume =
     record {
-      kind = getD m 4 0;
+      letter = getD m 4 0;
       time = be (part m 0 4);
       event = 0;
       centre = getD m 5 0;
@@ -90,7 +90,7 @@ fieldsTrade m new volume =
 unfoldable pub fieldsJ : List ℕ → Record
 fieldsJ m =
     record {
-      kind = getD m 4 0;
+      letter = getD m 4 0;
       time = be (part m 0 4);
       event = 0;
       centre = 0;
@@ -152,25 +152,29 @@ lawfulJ r =
 
 unfoldable pub lawfulOf : Record → Bool
 lawfulOf r =
-    cond (eqb (r .kind) 83) (lawfulS r)
-    (cond (eqb (r .kind) 67) (lawfulC r)
-    (cond (eqb (r .kind) 74) (lawfulJ r)
-    (cond (eqb (r .kind) 84 || eqb (r .kind) 88) (lawfulT r) false)))
+    cond (eqb (r .letter) 83) (lawfulS r)
+    (cond (eqb (r .letter) 67) (lawfulC r)
+    (cond (eqb (r .letter) 74) (lawfulJ r)
+    (cond (eqb (r .letter) 84 || eqb (r .letter) 88) (lawfulT r) false)))
 
 -- ---- what reading says
 
-abbrev pub refusedOf : Answer → Reading
-refusedOf a = record { answer = a; found = noRecord }
+abbrev pub nothingWith : Answer → Reading
+nothingWith a = record { answer = a; found = noRecord }
+
+-- a refusal by its number hands back a record of zeros
+abbrev pub refusedOf : ℕ → Reading
+refusedOf n = nothingWith (answerOf n)
 
 abbrev pub acceptedOf : Record → Reading
-acceptedOf r = record { answer = Done; found = r }
+acceptedOf r = record { answer = answerOf 0; found = r }
 
 unfoldable pub judgedOf : Record → Reading
-judgedOf r = cond (lawfulOf r) (acceptedOf r) (refusedOf FieldBroken)
+judgedOf r = cond (lawfulOf r) (acceptedOf r) (refusedOf 5)
 
 -- no such type, or not its length
 abbrev pub misshapen : List ℕ → Bool
-misshapen m = eqb (lengthOf (getD m 4 0)) 0 || not (eqb (length m) (lengthOf (getD m 4 0)))
+misshapen m = eqb (lengthBy (getD m 4 0)) 0 || not (eqb (length m) (lengthBy (getD m 4 0)))
 
 unfoldable pub readOf : List ℕ → Reading
-readOf m = cond (misshapen m) (refusedOf NoType) (judgedOf (fieldsOf m))
+readOf m = cond (misshapen m) (refusedOf 4) (judgedOf (fieldsOf m))

@@ -24,12 +24,12 @@ fn no_sale() -> Sale
 
 // A refusal hands back a record of zeros.
 pub fn refused(a: Answer) -> Reading
-    ensures { λ r. ⌜ r ≡ R.refusedOf a ⌝ }
+    ensures { λ r. ⌜ r ≡ R.nothingWith a ⌝ }
 {
     let sale = no_sale();
     let new = no_sale();
     let none = Record {
-        kind: 0,
+        letter: 0,
         time: 0,
         event: 0,
         centre: 0,
@@ -71,12 +71,12 @@ fn fields_s(m: &[u8]) -> Record
     ensures { λ r. ⌜ r ≡ R.fieldsS (now (m .entry)) ⌝ }
 {
     let time = number4(m, 0);
-    let kind = byte(m, 4);
+    let letter = byte(m, 4);
     let event = byte(m, 5);
     let sale = no_sale();
     let new = no_sale();
     Record {
-        kind: kind,
+        letter: letter,
         time: time,
         event: event,
         centre: 0,
@@ -103,7 +103,7 @@ fn fields_trade(m: &[u8], new: Sale, consolidated: u64) -> Record
     let class = byte(m, 14);
     let sale = sale_at(m, 15);
     Record {
-        kind: letter,
+        letter: letter,
         time: time,
         event: 0,
         centre: centre,
@@ -122,7 +122,7 @@ fn fields_j(m: &[u8]) -> Record
     ensures { λ r. ⌜ r ≡ R.fieldsJ (now (m .entry)) ⌝ }
 {
     let time = number4(m, 0);
-    let kind = byte(m, 4);
+    let letter = byte(m, 4);
     let mut symbol = [0u8; 8];
     fill(&mut symbol, m, 5);
     let class = byte(m, 13);
@@ -133,7 +133,7 @@ fn fields_j(m: &[u8]) -> Record
     let close = number4(m, 22);
     let consolidated = number8(m, 26);
     Record {
-        kind: kind,
+        letter: letter,
         time: time,
         event: 0,
         centre: 0,
@@ -152,16 +152,16 @@ fn fields_j(m: &[u8]) -> Record
 pub fn fields(m: &[u8]) -> Record
     ensures { λ r. ⌜ r ≡ R.fieldsOf (now (m .entry)) ⌝ }
 {
-    let kind = byte(m, 4);
-    if kind == b'S' {
+    let letter = byte(m, 4);
+    if letter == b'S' {
         return fields_s(m);
     }
-    if kind == b'C' {
+    if letter == b'C' {
         let new = sale_at(m, 37);
         let consolidated = number8(m, 59);
         return fields_trade(m, new, consolidated);
     }
-    if kind == b'J' {
+    if letter == b'J' {
         return fields_j(m);
     }
     let new = no_sale();

@@ -6,7 +6,7 @@ mod store;
 
 use answer::Answer;
 ghost use mathlib.Core.Path.{_≡_};
-ghost use Rattle.message.specs.Reading.{lengthOf, readOf, judgedOf};
+ghost use Rattle.message.specs.Reading.{lengthBy, readOf, judgedOf};
 ghost use Rattle.message.specs.Writing.{writeAnswer, writeOut};
 
 // What a message says of one trade: 22 bytes that stand alike wherever they occur.
@@ -17,10 +17,10 @@ pub struct Sale {
     pub condition: [u8; 4],
 }
 
-// A message. `kind` is its type's letter; `sale` is T's trade, and the original that X and C name; `new` is what C
+// A message. `letter` is its type's letter; `sale` is T's trade, and the original that X and C name; `new` is what C
 // puts in its place. A field that the type lacks is zero.
 pub struct Record {
-    pub kind: u8,
+    pub letter: u8,
     pub time: u32,
     pub event: u8,
     pub centre: u8,
@@ -41,10 +41,10 @@ pub struct Reading {
 }
 
 // The length of a type's messages, by its letter; 0 for a letter of no type.
-fn length_of(kind: u8) -> usize
-    ensures { λ r. ⌜ r ≡ lengthOf kind ⌝ }
+fn length_of(letter: u8) -> usize
+    ensures { λ r. ⌜ r ≡ lengthBy letter ⌝ }
 {
-    match kind {
+    match letter {
         b'S' => 6,
         b'T' => 45,
         b'X' => 45,
@@ -71,8 +71,8 @@ fn judged(r: Record) -> Reading
 pub fn read(message: &[u8]) -> Reading
     ensures { λ r. ⌜ r ≡ readOf (now (message .entry)) ⌝ }
 {
-    let kind = octets::run::byte(message, 4);
-    let need = length_of(kind);
+    let letter = octets::run::byte(message, 4);
+    let need = length_of(letter);
     if (need == 0) | (message.len() != need) {
         return fields::refused(Answer::NoType);
     }
@@ -84,9 +84,9 @@ pub fn write(r: Record, out: &mut [u8]) -> Answer
     ensures answer { λ a. ⌜ a ≡ writeAnswer r (now (out .entry)) ⌝ }
     ensures left { λ a. ⌜ now (out .exit) ≡ writeOut r (now (out .entry)) ⌝ }
 {
-    let kind = r.kind;
+    let letter = r.letter;
     let sound = rules::lawful(r);
-    let room = length_of(kind) <= out.len();
+    let room = length_of(letter) <= out.len();
     if sound & room {
         store::store(out, r);
         return Answer::Done;

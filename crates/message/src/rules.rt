@@ -43,13 +43,19 @@ fn summary_price_ok(p: u32) -> bool
     p <= 2000000000
 }
 
+fn size_ok(s: u32) -> bool
+    ensures { λ r. ⌜ r ≡ Rules.size s ⌝ }
+{
+    (1 <= s) & (s <= 4294967295)
+}
+
 fn sale_ok(s: Sale) -> bool
     ensures { λ r. ⌜ r ≡ R.saleOk s ⌝ }
 {
     let control = s.control;
     let condition = s.condition;
     let marks = sheet::condition_marks(condition);
-    is_text(&control) & price_ok(s.price) & (1 <= s.size) & marks.listed
+    is_text(&control) & price_ok(s.price) & size_ok(s.size) & marks.on_sheet
 }
 
 // Whether a trade's fields are all zero.
@@ -132,17 +138,17 @@ fn lawful_j(r: Record) -> bool
 pub fn lawful(r: Record) -> bool
     ensures { λ b. ⌜ b ≡ R.lawfulOf r ⌝ }
 {
-    let kind = r.kind;
-    if kind == b'S' {
+    let letter = r.letter;
+    if letter == b'S' {
         return lawful_s(r);
     }
-    if kind == b'C' {
+    if letter == b'C' {
         return lawful_c(r);
     }
-    if kind == b'J' {
+    if letter == b'J' {
         return lawful_j(r);
     }
-    if (kind == b'T') | (kind == b'X') {
+    if (letter == b'T') | (letter == b'X') {
         return lawful_t(r);
     }
     false

@@ -27,7 +27,7 @@ fn put_s(out: &mut [u8], r: Record)
     ensures { λ _. ⌜ now (out .exit) ≡ sets (now (out .entry)) 0 (W.bytesS r) ⌝ }
 {
     put4(out, 0, r.time);
-    put_byte(out, 4, r.kind);
+    put_byte(out, 4, r.letter);
     put_byte(out, 5, r.event);
 }
 
@@ -37,7 +37,7 @@ fn put_head(out: &mut [u8], r: Record)
 {
     let symbol = r.symbol;
     put4(out, 0, r.time);
-    put_byte(out, 4, r.kind);
+    put_byte(out, 4, r.letter);
     put_byte(out, 5, r.centre);
     paste(out, 6, &symbol);
     put_byte(out, 14, r.class);
@@ -78,7 +78,7 @@ fn put_j(out: &mut [u8], r: Record)
 {
     let symbol = r.symbol;
     put4(out, 0, r.time);
-    put_byte(out, 4, r.kind);
+    put_byte(out, 4, r.letter);
     paste(out, 5, &symbol);
     put_byte(out, 13, r.class);
     put_prices(out, 14, r);
@@ -89,16 +89,16 @@ fn put_j(out: &mut [u8], r: Record)
 pub fn store(out: &mut [u8], r: Record)
     ensures { λ _. ⌜ now (out .exit) ≡ sets (now (out .entry)) 0 (W.bytesOf r) ⌝ }
 {
-    let kind = r.kind;
-    if kind == b'S' {
+    let letter = r.letter;
+    if letter == b'S' {
         put_s(out, r);
         return;
     }
-    if kind == b'C' {
+    if letter == b'C' {
         put_c(out, r);
         return;
     }
-    if kind == b'J' {
+    if letter == b'J' {
         put_j(out, r);
         return;
     }

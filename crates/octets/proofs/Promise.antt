@@ -13,15 +13,9 @@ use denote.Ref.{now}
 use Rattle.octets.proofs.run.byte as byte
 use Rattle.octets.proofs.run.byte.Reads as byte-reads
 use Rattle.octets.proofs.run.byte.Kinds as byte-kinds
-use Rattle.octets.proofs.run.byte_past as byte-past
-use Rattle.octets.proofs.run.byte_past.Reads as byte-past-reads
-use Rattle.octets.proofs.run.byte_past.Kinds as byte-past-kinds
 use Rattle.octets.proofs.run.put_byte as put-byte
 use Rattle.octets.proofs.run.put_byte.Reads as put-byte-reads
 use Rattle.octets.proofs.run.put_byte.Kinds as put-byte-kinds
-use Rattle.octets.proofs.run.put_past as put-past
-use Rattle.octets.proofs.run.put_past.Reads as put-past-reads
-use Rattle.octets.proofs.run.put_past.Kinds as put-past-kinds
 use Rattle.octets.proofs.run.paste as paste
 use Rattle.octets.proofs.run.paste.Reads as paste-reads
 use Rattle.octets.proofs.run.paste.Kinds as paste-kinds
@@ -54,17 +48,9 @@ pub byte-one : (κs : Lfts 1) (a : ArgsD byte.signature κs) (r r′ : ℕ) (s s
     → byte-reads.Learnt κs a r s → byte-reads.Learnt κs a r′ s′ → r ≡ r′
 byte-one κs a r r′ s s′ h h′ = h ∙ sym h′
 
-pub byte-past-one : (κs : Lfts 1) (a : ArgsD byte-past.signature κs) (r r′ : ℕ) (s s′ : AtExit (endedOf 1 byte-past-kinds.ps byte-past-kinds.r) κs)
-    → byte-past-reads.Learnt κs a r s → byte-past-reads.Learnt κs a r′ s′ → r ≡ r′
-byte-past-one κs a r r′ s s′ h h′ = h ∙ sym h′
-
 pub put-byte-one : (κs : Lfts 1) (a : ArgsD put-byte.signature κs) (r r′ : Unit) (s s′ : AtExit (endedOf 1 put-byte-kinds.ps put-byte-kinds.r) κs)
     → put-byte-reads.Learnt κs a r s → put-byte-reads.Learnt κs a r′ s′ → now (s .0) ≡ now (s′ .0)
 put-byte-one κs a r r′ s s′ h h′ = h ∙ sym h′
-
-pub put-past-one : (κs : Lfts 1) (a : ArgsD put-past.signature κs) (r r′ : Unit) (s s′ : AtExit (endedOf 1 put-past-kinds.ps put-past-kinds.r) κs)
-    → put-past-reads.Learnt κs a r s → put-past-reads.Learnt κs a r′ s′ → now (s .0) ≡ now (s′ .0)
-put-past-one κs a r r′ s s′ h h′ = h ∙ sym h′
 
 pub paste-one : (κs : Lfts 2) (a : ArgsD paste.signature κs) (r r′ : Unit) (s s′ : AtExit (endedOf 2 paste-kinds.ps paste-kinds.r) κs)
     → paste-reads.Learnt κs a r s → paste-reads.Learnt κs a r′ s′ → now (s .0) ≡ now (s′ .0)

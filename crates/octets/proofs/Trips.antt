@@ -2,16 +2,17 @@
 -- in what was put together.
 -- Assumes nothing.
 use mathlib.Core.Path.{_≡_, refl, ap, sym, _∙_}
+use mathlib.Core.Logic.{_↔_}
 use mathlib.Core.Bool.{Bool, true, false, _&&_, and-eq-true-iff}
 use mathlib.Core.List.{List, [], _∷_, _++_, append-nil}
 use Prim.Native.Nat.{ℕ, zero, suc, _+_, _-_, _*_, _/_, _%_, _^_, _≤_, _<_}
 use native.Mathlib.Nat.{pow-succ', add-zero, zero-add}
 use native.Mathlib.Omega.{arith}
-use borrow.Author.Tests.{eqb-true}
+use borrow.Author.Tests.{eqb-true, eq-eqb}
 use lib.Dec.{eqb}
 use lib.ListN.{length, drop, getD, replicate}
 use lib.Seq.{getD-drop, drop-drop, drop-at}
-use Rattle.octets.specs.Run.{tab, past, part, Bytes}
+use Rattle.octets.specs.Run.{tab, past, part, same, Bytes}
 use Rattle.octets.specs.Number.{beAfter, be, digits}
 use Rattle.octets.specs.Text.{all}
 use Rattle.octets.proofs.Laws.{tab-length, tab-snoc, part-length, part-snoc, be-part, after-snoc}
@@ -141,3 +142,21 @@ zeros (x ∷ xs) (suc n) l e =
     let p = and-eq-true-iff (eqb x 0) (all 0 xs) .0 e in
     let q : x ≡ 0 = eqb-true x 0 (p .0) in
     rw (q, zeros xs n (omega arith) (p .1))
+
+-- ---- runs compared
+
+-- two runs pass for the same exactly if they are
+pub same-is : (xs ys : List ℕ) → (same xs ys ≡ true) ↔ (xs ≡ ys)
+same-is xs ys = (told xs ys, λ e. rw e (itself ys))
+  where
+    told : (xs ys : List ℕ) → same xs ys ≡ true → xs ≡ ys
+    told [] [] e = refl
+    told [] (y ∷ ys) e = let z : _≡_ {A = ℕ} 0 1 = cc in absurd (omega arith)
+    told (x ∷ xs) [] e = let z : _≡_ {A = ℕ} 0 1 = cc in absurd (omega arith)
+    told (x ∷ xs) (y ∷ ys) e =
+        let p = and-eq-true-iff (eqb x y) (same xs ys) .0 e in
+        cons-eq (eqb-true x y (p .0)) (told xs ys (p .1))
+
+    itself : (ys : List ℕ) → same ys ys ≡ true
+    itself [] = refl
+    itself (y ∷ ys) = rw (eq-eqb y y refl) (itself ys)

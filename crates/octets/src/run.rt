@@ -12,8 +12,8 @@ pub fn byte(s: &[u8], at: usize) -> u8
     if at < s.len() { s[at] } else { 0 }
 }
 
-// The byte j places past a place; their sum may be larger than any place.
-pub fn byte_past(s: &[u8], at: usize, j: usize) -> u8
+// The byte j places past a place; the sum of the two may not fit a usize.
+pub(crate) fn byte_past(s: &[u8], at: usize, j: usize) -> u8
     ensures { λ r. ⌜ r ≡ getD (now (s .entry)) (at + j) 0 ⌝ }
 {
     if s.len() <= at {
@@ -32,7 +32,7 @@ pub fn put_byte(out: &mut [u8], at: usize, b: u8)
 }
 
 // Stores a byte j places past a place.
-pub fn put_past(out: &mut [u8], at: usize, j: usize, b: u8)
+pub(crate) fn put_past(out: &mut [u8], at: usize, j: usize, b: u8)
     ensures { λ _. ⌜ now (out .exit) ≡ set (now (out .entry)) (at + j) b ⌝ }
 {
     if out.len() <= at {
@@ -65,7 +65,7 @@ pub fn fill(out: &mut [u8], s: &[u8], at: usize)
     }
 }
 
-// Whether the bytes from a place on are those of t.
+// Whether the bytes from a place on are those of t, bytes past the end being 0.
 pub fn same_at(s: &[u8], at: usize, t: &[u8]) -> bool
     ensures { λ r. ⌜ r ≡ same (part (now (s .entry)) at (length (now (t .entry)))) (now (t .entry)) ⌝ }
 {

@@ -9,7 +9,7 @@ fn is_ink(x: u8) -> bool
     (33 <= x) & (x <= 126)
 }
 
-// How many bytes at the head are ink.
+// How many bytes at the head show.
 fn inked(s: &[u8]) -> usize
     ensures { λ r. ⌜ r ≡ Text.inked (now (s .entry)) ⌝ }
 {
@@ -38,7 +38,7 @@ pub fn is_all(s: &[u8], from: usize, v: u8) -> bool
     true
 }
 
-// Whether the bytes are a text: ink, then spaces to the end.
+// Whether the bytes are a text: one or more that show, then spaces to the end.
 pub fn is_text(s: &[u8]) -> bool
     ensures { λ r. ⌜ r ≡ Text.text (now (s .entry)) ⌝ }
 {

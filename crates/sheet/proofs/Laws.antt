@@ -7,9 +7,9 @@ use Rattle.sheet.specs.Sheet.{sheetAt, among, onSheet, maySetHighLow, ma
 
 -- ---- a condition's marks, each from its four codes
 
-pub listed-each : (c : List ℕ) → conditionMarks c .listed ≡ allFour onSheet c
+pub on-sheet-each : (c : List ℕ) → conditionMarks c .«on_sheet» ≡ allFour onSheet c
 unfolding conditionMarks
-listed-each c = refl
+on-sheet-each c = refl
 
 pub high-low-each : (c : List ℕ) → conditionMarks c .«high_low» ≡ allFour maySetHighLow c
 unfolding conditionMarks

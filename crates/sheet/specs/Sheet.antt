@@ -60,7 +60,7 @@ mayBeLast level code = among (sheetAt level .both) code
 
 unfoldable pub marksOf : ℕ → ℕ → Marks
 marksOf level code =
-    record { listed = onSheet level code; «high_low» = maySetHighLow level code; last = mayBeLast level code }
+    record { «on_sheet» = onSheet level code; «high_low» = maySetHighLow level code; last = mayBeLast level code }
 
 -- ---- what it says of a condition: four codes, one from each level in turn
 
@@ -69,7 +69,7 @@ abbrev pub allFour : (ℕ → ℕ → Bool) → List ℕ → Bool
 allFour m c = ((m 1 (getD c 0 0) && m 2 (getD c 1 0)) && m 3 (getD c 2 0)) && m 4 (getD c 3 0)
 
 unfoldable pub conditionMarks : List ℕ → Marks
-conditionMarks c = record { listed = allFour onSheet c; «high_low» = allFour maySetHighLow c; last = allFour mayBeLast c }
+conditionMarks c = record { «on_sheet» = allFour onSheet c; «high_low» = allFour maySetHighLow c; last = allFour mayBeLast c }
 
 -- ---- the marks of a code as one number, in which the program keeps them
 

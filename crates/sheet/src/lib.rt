@@ -11,7 +11,7 @@ use tables::LEVEL_4;
 
 // What the sheet says of a code at its level, or of the four codes of a condition together.
 pub struct Marks {
-    pub listed: bool,
+    pub on_sheet: bool,
     pub high_low: bool,
     pub last: bool,
 }
@@ -37,13 +37,13 @@ pub fn bits(level: u8, code: u8) -> u8
     }
 }
 
-// One code's marks; a code off the sheet is not listed and bears none.
+// One code's marks; a code off the sheet is not on_sheet and bears none.
 pub fn code_marks(level: u8, code: u8) -> Marks
     ensures { λ r. ⌜ r ≡ marksOf level code ⌝ }
 {
     let found = bits(level, code);
     Marks {
-        listed: found & 1 != 0,
+        on_sheet: found & 1 != 0,
         high_low: found & 2 != 0,
         last: found & 4 != 0,
     }
@@ -58,7 +58,7 @@ pub fn condition_marks(condition: [u8; 4]) -> Marks
     let third = code_marks(3, condition[2]);
     let fourth = code_marks(4, condition[3]);
     Marks {
-        listed: first.listed & second.listed & third.listed & fourth.listed,
+        on_sheet: first.on_sheet & second.on_sheet & third.on_sheet & fourth.on_sheet,
         high_low: first.high_low & second.high_low & third.high_low & fourth.high_low,
         last: first.last & second.last & third.last & fourth.last,
     }

@@ -8,27 +8,27 @@ use Rattle.message.proofs.length_of.Reads as reads
 use Rattle.message.proofs.length_of.Lts as lts
 
 returns : tie.Need-returns
-unfolding R.lengthOf
+unfolding R.lengthBy
 returns c = rw (c .match .keys1)
 
 returns-2 : tie.Need-returns-2
-unfolding R.lengthOf
+unfolding R.lengthBy
 returns-2 c = rw (c .match .keys2)
 
 returns-3 : tie.Need-returns-3
-unfolding R.lengthOf
+unfolding R.lengthBy
 returns-3 c = rw (c .match .keys3)
 
 returns-4 : tie.Need-returns-4
-unfolding R.lengthOf
+unfolding R.lengthBy
 returns-4 c = rw (c .match .keys4)
 
 returns-5 : tie.Need-returns-5
-unfolding R.lengthOf
+unfolding R.lengthBy
 returns-5 c = rw (c .match .keys5)
 
 returns-6 : tie.Need-returns-6
-unfolding R.lengthOf
+unfolding R.lengthBy
 returns-6 c =
     let r = c .match .rest in
     simp (ne-eqb _ _ (r .0 .0 .0 .0 .1), ne-eqb _ _ (r .0 .0 .0 .1), ne-eqb _ _ (r .0 .0 .1), ne-eqb _ _ (r .0 .1), ne-eqb _ _ (r .1))

@@ -5,6 +5,7 @@ use Rattle.message.proofs.rules.sale_ok.Tie as tie
 use Rattle.message.proofs.rules.sale_ok.Reads as reads
 use Rattle.message.proofs.rules.sale_ok.Lts as lts
 use Rattle.message.proofs.rules.price_ok.Reads as price-ok-reads
+use Rattle.message.proofs.rules.size_ok.Reads as size-ok-reads
 use Rattle.octets.proofs.text.is_text.Reads as is-text-reads
 use Rattle.sheet.proofs.condition_marks.Reads as condition-marks-reads
 
@@ -20,6 +21,9 @@ is-text-requires c κs = search needs
 price-ok-requires : tie.Need-price-ok-requires
 price-ok-requires c κs = search needs
 
+size-ok-requires : tie.Need-size-ok-requires
+size-ok-requires c κs = search needs
+
 returns : tie.Need-returns
 unfolding R.saleOk
 returns c = cc
@@ -32,4 +36,5 @@ sale-ok-spec =
     slice-aggregate-is-text
     is-text-requires
     price-ok-requires
+    size-ok-requires
     returns)
