@@ -19,7 +19,7 @@ prices-none-requires c κs = search needs
 
 returns : tie.Need-returns
 unfolding R.lawfulC
-returns c = cc
+returns c = rw (c .prices-none .ensures, c .before .before .sale-ok .ensures, c .before .before .before .trade-ok .ensures)
 
 pub lawful-c-spec : {M : Type 1} → statement M
 lawful-c-spec =

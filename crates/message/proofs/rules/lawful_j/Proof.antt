@@ -39,7 +39,7 @@ sale-none-requires-2 c κs = search needs
 
 returns : tie.Need-returns
 unfolding R.lawfulJ
-returns c = cc
+returns c = rw (c .sale-none2 .ensures, c .before .sale-none .ensures, c .before .before .before .before .summary-price-ok3 .ensures, c .before .before .before .before .before .summary-price-ok2 .ensures, c .before .before .before .before .before .before .summary-price-ok .ensures, c .before .before .before .before .before .before .before .class-ok .ensures, c .before .before .before .before .before .before .before .before .is-text .ensures, c .before .before .before .before .before .before .before .before .before .before .time-ok .ensures)
 
 pub lawful-j-spec : {M : Type 1} → statement M
 lawful-j-spec =

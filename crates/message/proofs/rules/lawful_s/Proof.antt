@@ -33,7 +33,7 @@ prices-none-requires c κs = search needs
 
 returns : tie.Need-returns
 unfolding R.lawfulS
-returns c = cc
+returns c = rw (c .before .prices-none .ensures, c .before .before .sale-none2 .ensures, c .before .before .before .sale-none .ensures, c .before .before .before .before .before .is-all .ensures, c .before .before .before .before .before .before .before .before .event-ok .ensures, c .before .before .before .before .before .before .before .before .before .time-ok .ensures)
 
 pub lawful-s-spec : {M : Type 1} → statement M
 lawful-s-spec =

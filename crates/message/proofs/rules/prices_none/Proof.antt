@@ -1,3 +1,4 @@
+use mathlib.Core.Path.{refl}
 use Rattle.message.specs.Reading as R
 use borrow.Author.Needs.{needs}
 use Rattle.message.proofs.rules.prices_none.Statement.{statement}
@@ -7,7 +8,7 @@ use Rattle.message.proofs.rules.prices_none.Lts as lts
 
 returns : tie.Need-returns
 unfolding R.pricesNone
-returns c = cc
+returns c = refl
 
 pub prices-none-spec : {M : Type 1} → statement M
 prices-none-spec = tie.close (tie.spec returns)

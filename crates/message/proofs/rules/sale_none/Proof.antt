@@ -20,7 +20,7 @@ is-all-requires-2 c κs = search needs
 
 returns : tie.Need-returns
 unfolding R.saleNone
-returns c = cc
+returns c = rw (c .is-all2 .ensures, c .before .before .before .before .is-all .ensures)
 
 pub sale-none-spec : {M : Type 1} → statement M
 sale-none-spec =

@@ -26,7 +26,7 @@ size-ok-requires c κs = search needs
 
 returns : tie.Need-returns
 unfolding R.saleOk
-returns c = cc
+returns c = rw (c .before .size-ok .ensures, c .before .before .price-ok .ensures, c .before .before .before .is-text .ensures, c .before .before .before .before .before .condition-marks .ensures)
 
 pub sale-ok-spec : {M : Type 1} → statement M
 sale-ok-spec =

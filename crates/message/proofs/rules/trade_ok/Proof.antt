@@ -30,7 +30,7 @@ sale-ok-requires c κs = search needs
 
 returns : tie.Need-returns
 unfolding R.tradeOk
-returns c = cc
+returns c = rw (c .sale-ok .ensures, c .before .class-ok .ensures, c .before .before .is-text .ensures, c .before .before .before .before .centre-ok .ensures, c .before .before .before .before .before .time-ok .ensures)
 
 pub trade-ok-spec : {M : Type 1} → statement M
 trade-ok-spec =
