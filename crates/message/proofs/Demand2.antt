@@ -2,7 +2,7 @@
 -- at its place; the writer gives back the same bytes; a record that breaks a rule is not written.
 -- Assumes nothing.
 use mathlib.Core.Path.{_≡_, refl, ap, sym, subst, _∙_}
-use mathlib.Core.Logic.{_↔_}
+use mathlib.Core.Logic.{_↔_, _⊎_, inl, inr}
 use mathlib.Core.Bool.{Bool, true, false, cond, _&&_}
 use mathlib.Core.List.{List, _++_}
 use Prim.Native.Nat.{ℕ, _≤_, _<_}
@@ -32,15 +32,21 @@ clash b t f = let z : _≡_ {A = ℕ} 0 1 = cc in omega arith
 
 -- ---- reading
 
+zeros : Each (λ f. isZero (holds f noRecord) ≡ true) allFields
+unfolding holds isZero
+zeros = all-each (λ f. isZero (holds f noRecord)) allFields refl
+
 -- What reading a message may say: 0 exactly if it obeys, 4 exactly if no type has its letter and its length, 5 exactly
 -- if one has and a field breaks its rule. A message that obeys fills each field of its layout with what stands there,
--- and leaves every other field zero.
+-- and leaves every other field zero; a message that is refused leaves every field zero.
 pub record ReadsExactly (m : List ℕ) (a : Reading) : Type 0 where
+  pub listed : (numberOf (a .answer) ≡ 0) ⊎ ((numberOf (a .answer) ≡ 4) ⊎ (numberOf (a .answer) ≡ 5))
   pub zero : (numberOf (a .answer) ≡ 0) ↔ Obeys m
   pub four : (numberOf (a .answer) ≡ 4) ↔ (Shaped m → ⊥)
   pub five : (numberOf (a .answer) ≡ 5) ↔ (Shaped m × (Obeys m → ⊥))
   pub filled : (o : Obeys m) → Each (λ e. holds (fieldOf e) (a .found) ≡ stands e m) (layoutOf (o .shape .type))
   pub others : (o : Obeys m) → Each (λ f. isZero (holds f (a .found)) ≡ true) (lacked (o .shape .type))
+  pub refused : (numberOf (a .answer) ≡ 0 → ⊥) → Each (λ f. isZero (holds f (a .found)) ≡ true) allFields
 
 pub read-exactly : (m : List ℕ) → ReadsExactly m (readOf m)
 read-exactly m = go (said m)
@@ -49,32 +55,38 @@ read-exactly m = go (said m)
     at-wrong e =
         let never : Obeys m → ⊥ = λ o. clash (misshapen m) e (is-shaped m (o .shape)) in
         record {
+          listed = inr (inl refl);
           zero = (λ z. absurd (omega arith), λ o. absurd (never o));
           four = (λ z s. clash (misshapen m) e (is-shaped m s), λ h. refl);
           five = (λ z. absurd (omega arith), λ p. absurd (clash (misshapen m) e (is-shaped m (p .0))));
           filled = λ o. absurd (never o);
           others = λ o. absurd (never o);
+          refused = λ z. zeros;
         }
 
     at-broken : misshapen m ≡ false → lawfulOf (fieldsOf m) ≡ false → ReadsExactly m (refusedOf 5)
     at-broken e f =
         let never : Obeys m → ⊥ = λ o. clash (lawfulOf (fieldsOf m)) (is-obeys m o) f in
         record {
+          listed = inr (inr refl);
           zero = (λ z. absurd (omega arith), λ o. absurd (never o));
           four = (λ z. absurd (omega arith), λ h. absurd (h (shaped-is m e)));
           five = (λ z. (shaped-is m e, never), λ p. refl);
           filled = λ o. absurd (never o);
           others = λ o. absurd (never o);
+          refused = λ z. zeros;
         }
 
     at-done : misshapen m ≡ false → lawfulOf (fieldsOf m) ≡ true → ReadsExactly m (acceptedOf (fieldsOf m))
     at-done e l =
         record {
+          listed = inl refl;
           zero = (λ z. obeys-is m e l, λ o. refl);
           four = (λ z. absurd (omega arith), λ h. absurd (h (shaped-is m e)));
           five = (λ z. absurd (omega arith), λ p. absurd (p .1 (obeys-is m e l)));
           filled = λ o. stood m (o .shape .type) (o .shape .typed);
           others = λ o. lacks m (o .shape .type) (o .shape .typed);
+          refused = λ z. absurd (z refl);
         }
 
     go : Said m → ReadsExactly m (readOf m)
@@ -82,21 +94,14 @@ read-exactly m = go (said m)
     go (unkept e f q) = subst (ReadsExactly m) (sym q) (at-broken e f)
     go (obeyed e l q) = subst (ReadsExactly m) (sym q) (at-done e l)
 
-zeros : Each (λ f. isZero (holds f noRecord) ≡ true) allFields
-unfolding holds isZero
-zeros = all-each (λ f. isZero (holds f noRecord)) allFields refl
-
--- a refused read hands back a record of zeros, in every field
+-- a refused read hands back a record of zeros
 pub read-refused : (m : List ℕ) → (numberOf (readOf m .answer) ≡ 0 → ⊥)
     → (readOf m .found ≡ noRecord) × Each (λ f. isZero (holds f (readOf m .found)) ≡ true) allFields
-read-refused m h = go (said m)
+read-refused m h = (go (said m), read-exactly m .refused h)
   where
-    none : (r : Record) → r ≡ noRecord → (r ≡ noRecord) × Each (λ f. isZero (holds f r) ≡ true) allFields
-    none r e = (e, subst (λ (x : Record). Each (λ f. isZero (holds f x) ≡ true) allFields) (sym e) zeros)
-
-    go : Said m → (readOf m .found ≡ noRecord) × Each (λ f. isZero (holds f (readOf m .found)) ≡ true) allFields
-    go (unshaped e q) = none (readOf m .found) (ap (λ (a : Reading). a .found) q)
-    go (unkept e f q) = none (readOf m .found) (ap (λ (a : Reading). a .found) q)
+    go : Said m → readOf m .found ≡ noRecord
+    go (unshaped e q) = ap (λ (a : Reading). a .found) q
+    go (unkept e f q) = ap (λ (a : Reading). a .found) q
     go (obeyed e l q) = absurd (h (ap (λ (a : Reading). numberOf (a .answer)) q))
 
 -- ---- reading, then writing
@@ -142,11 +147,12 @@ read-again m out b z h =
 -- What writing a record may say and leave: 0 exactly if it keeps the rules of its type and there is room, 18 exactly if
 -- it keeps them and there is not, 5 exactly if it breaks one. Where not 0, every byte stays; where 0, those past the message.
 pub record WritesExactly (r : Record) (out : List ℕ) (a : Answer) (left : List ℕ) : Type 0 where
+  pub listed : (numberOf a ≡ 0) ⊎ ((numberOf a ≡ 5) ⊎ (numberOf a ≡ 18))
   pub zero : (numberOf a ≡ 0) ↔ ((w : Lawful r) × (lengthOf (w .type) ≤ length out))
   pub short : (numberOf a ≡ 18) ↔ ((w : Lawful r) × (length out < lengthOf (w .type)))
   pub five : (numberOf a ≡ 5) ↔ (Lawful r → ⊥)
   pub stays : (numberOf a ≡ 0 → ⊥) → left ≡ out
-  pub past : RecordFits r → drop (lengthBy (r .letter)) left ≡ drop (lengthBy (r .letter)) out
+  pub past : RecordFits r → (w : Lawful r) → drop (lengthOf (w .type)) left ≡ drop (lengthOf (w .type)) out
 
 long-is : (r : Record) (w : Lawful r) → lengthBy (r .letter) ≡ lengthOf (w .type)
 long-is r w = ap lengthBy (w .typed) ∙ long-letter (w .type)
@@ -162,38 +168,40 @@ write-exactly r out = rules (lawfulOf r) refl
     unlawful f =
         let never : Lawful r → ⊥ = λ w. clash (lawfulOf r) (is-lawful r w) f in
         record {
+          listed = inr (inl refl);
           zero = (λ z. absurd (omega arith), λ p. absurd (never (p .0)));
           short = (λ z. absurd (omega arith), λ p. absurd (never (p .0)));
           five = (λ z. never, λ h. refl);
           stays = λ z. refl;
-          past = λ g. refl;
+          past = λ g v. refl;
         }
 
     tight : lawfulOf r ≡ true → length out < lengthBy (r .letter) → is NoSpace out
     tight l k =
         let w = lawful-is r l in
         record {
+          listed = inr (inr refl);
           zero = (λ z. absurd (omega arith), λ p. absurd (omega (arith, long-is r (p .0))));
           short = (λ z. (w, omega (arith, long-is r w)), λ p. refl);
           five = (λ z. absurd (omega arith), λ h. absurd (h w));
           stays = λ z. refl;
-          past = λ g. refl;
+          past = λ g v. refl;
         }
 
     roomy : lawfulOf r ≡ true → lengthBy (r .letter) ≤ length out → is Done (bytesOf r ++ drop (length (bytesOf r)) out)
     roomy l k =
         let w = lawful-is r l in
         record {
+          listed = inl refl;
           zero = (λ z. (w, omega (arith, long-is r w)), λ p. refl);
           short = (λ z. absurd (omega arith), λ p. absurd (omega (arith, long-is r (p .0))));
           five = (λ z. absurd (omega arith), λ h. absurd (h w));
           stays = λ z. absurd (z refl);
-          past = λ g. passed (bytes-length r (fits-long r g) l);
+          past = λ g v. passed (lengthOf (v .type)) (bytes-length r (fits-long r g) l ∙ long-is r v);
         }
       where
-        passed : length (bytesOf r) ≡ lengthBy (r .letter)
-            → drop (lengthBy (r .letter)) (bytesOf r ++ drop (length (bytesOf r)) out) ≡ drop (lengthBy (r .letter)) out
-        passed e = drop-at (bytesOf r) _ (lengthBy (r .letter)) e ∙ ap (λ (n : ℕ). drop n out) e
+        passed : (n : ℕ) → length (bytesOf r) ≡ n → drop n (bytesOf r ++ drop (length (bytesOf r)) out) ≡ drop n out
+        passed n e = drop-at (bytesOf r) _ n e ∙ ap (λ (k : ℕ). drop k out) e
 
     room : lawfulOf r ≡ true → (b : Bool) → leb (lengthBy (r .letter)) (length out) ≡ b → is (writeAnswer r out) (writeOut r out)
     room l true e = simp (l, e) (roomy l (leb-true _ _ e))
@@ -212,18 +220,29 @@ broken r out h =
 
 -- ---- writing, then reading
 
--- a record that was written is read as it was
-pub write-again : (r : Record) (out : List ℕ) → RecordFits r → numberOf (writeAnswer r out) ≡ 0
-    → readOf (take (lengthBy (r .letter)) (writeOut r out)) ≡ acceptedOf r
-write-again r out g z =
-    let p = write-exactly r out .zero .0 z in
-    let w = p .0 in
+-- a record that keeps the rules of its type is written where there is room, and the message that then stands there is
+-- read as the record
+pub write-again : (r : Record) (out : List ℕ) → RecordFits r → (w : Lawful r) → lengthOf (w .type) ≤ length out
+    → readOf (take (lengthOf (w .type)) (writeOut r out)) ≡ acceptedOf r
+write-again r out g w h =
     let l : lawfulOf r ≡ true = is-lawful r w in
-    let k : lengthBy (r .letter) ≤ length out = omega (arith, p .1, long-is r w) in
-    let n : length (bytesOf r) ≡ lengthBy (r .letter) = bytes-length r (fits-long r g) l in
-    let t : take (lengthBy (r .letter)) (writeOut r out) ≡ bytesOf r =
-    ap (take (lengthBy (r .letter))) (write-done r out l k .1) ∙ take-at (bytesOf r) _ (lengthBy (r .letter)) n in
+    let k : lengthBy (r .letter) ≤ length out = omega (arith, long-is r w) in
+    let n : length (bytesOf r) ≡ lengthOf (w .type) = bytes-length r (fits-long r g) l ∙ long-is r w in
+    let t : take (lengthOf (w .type)) (writeOut r out) ≡ bytesOf r =
+    ap (take (lengthOf (w .type))) (write-done r out l k .1) ∙ take-at (bytesOf r) _ (lengthOf (w .type)) n in
     let e : getD (bytesOf r) 4 0 ≡ letterOf (w .type) = letter-again r g (w .type) (w .typed) in
-    let s : misshapen (bytesOf r) ≡ false = is-shaped (bytesOf r) (record { type = w .type; typed = e; long = n ∙ long-is r w }) in
+    let s : misshapen (bytesOf r) ≡ false = is-shaped (bytesOf r) (record { type = w .type; typed = e; long = n }) in
     let b : fieldsOf (bytesOf r) ≡ r = bytes-again r g (w .type) (w .typed) (w .empty) in
     ap readOf t ∙ accepted (bytesOf r) s (ap lawfulOf b ∙ l) ∙ ap acceptedOf b
+
+-- what is written is a message that obeys its layout, and each field of it stands for what the record holds
+pub written-stands : (r : Record) (out : List ℕ) → RecordFits r → (w : Lawful r) → lengthOf (w .type) ≤ length out
+    → (o : Obeys (take (lengthOf (w .type)) (writeOut r out)))
+    × Each (λ e. holds (fieldOf e) r ≡ stands e (take (lengthOf (w .type)) (writeOut r out))) (layoutOf (o .shape .type))
+written-stands r out g w h =
+    let m = take (lengthOf (w .type)) (writeOut r out) in
+    let a = write-again r out g w h in
+    let x = read-exactly m in
+    let o : Obeys m = x .zero .0 (ap (λ (s : Reading). numberOf (s .answer)) a) in
+    let f : readOf m .found ≡ r = ap (λ (s : Reading). s .found) a in
+    (o, subst (λ (q : Record). Each (λ e. holds (fieldOf e) q ≡ stands e m) (layoutOf (o .shape .type))) f (x .filled o))
