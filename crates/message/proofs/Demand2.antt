@@ -3,7 +3,7 @@
 -- Assumes nothing.
 use mathlib.Core.Path.{_≡_, refl, ap, sym, subst, _∙_}
 use mathlib.Core.Logic.{_↔_, _⊎_, inl, inr}
-use mathlib.Core.Bool.{Bool, true, false, cond, _&&_}
+use mathlib.Core.Bool.{Bool, true, false}
 use mathlib.Core.List.{List, _++_}
 use Prim.Native.Nat.{ℕ, _≤_, _<_}
 use native.Mathlib.Omega.{arith}
@@ -18,10 +18,10 @@ use Rattle.message.specs.declared.answer.Answer.{Answer}
 use Rattle.message.specs.declared.answer.Answer.the-variants.{Done, FieldBroken, NoSpace}
 use Rattle.message.specs.Answers.{numberOf}
 use Rattle.message.specs.Fits.{RecordFits}
-use Rattle.message.specs.Layouts.{MessageType, letterOf, lengthOf, layoutOf, stands, holds, fieldOf, isZero, Each, allFields, lacked, Shaped, Obeys, Lawful}
+use Rattle.message.specs.Layouts.{letterOf, lengthOf, layoutOf, stands, holds, fieldOf, isZero, Each, allFields, lacked, Shaped, Obeys, Lawful}
 use Rattle.message.specs.Reading.{lengthBy, noRecord, fieldsOf, lawfulOf, misshapen, refusedOf, acceptedOf, judgedOf, readOf}
 use Rattle.message.specs.Writing.{bytesOf, writeAnswer, writeOut}
-use Rattle.message.proofs.Letters.{long-letter, lawful-typed}
+use Rattle.message.proofs.Letters.{long-letter}
 use Rattle.message.proofs.Lawful.{all-each, lawful-is, is-lawful}
 use Rattle.message.proofs.Exactly.{letter-of, stood, lacks, shape-parts, shaped-is, is-shaped, obeys-is, is-obeys, Said, unshaped, unkept, obeyed, said}
 use Rattle.message.proofs.Stores.{fits-long, bytes-length}

@@ -9,9 +9,8 @@ use borrow.Author.Tests.{eqb-true, eqb-false, ne-eqb, eq-eqb}
 use lib.Dec.{eqb}
 use lib.ListN.{length, getD}
 use Rattle.message.specs.declared.Record.{Record}
-use Rattle.message.specs.declared.Reading.{Reading}
-use Rattle.message.specs.Reading.{lengthBy, noSale, saleAt, fieldsS, fieldsTrade, fieldsT, fieldsC, fieldsJ, fieldsOf, lawfulOf, misshapen, refusedOf, acceptedOf, judgedOf, readOf}
-use Rattle.message.specs.Layouts.{Field, Entry, MessageType, S, T, X, C, J, letterOf, lengthOf, layoutOf, stands, holds, fieldOf, keeps, isZero, Each, lacked, Shaped, Obeys, Lawful}
+use Rattle.message.specs.Reading.{lengthBy, saleAt, fieldsS, fieldsTrade, fieldsT, fieldsC, fieldsJ, fieldsOf, lawfulOf, misshapen, refusedOf, acceptedOf, judgedOf, readOf}
+use Rattle.message.specs.Layouts.{Entry, MessageType, S, T, X, C, J, letterOf, lengthOf, layoutOf, stands, holds, fieldOf, keeps, isZero, Each, lacked, Shaped, Obeys}
 use Rattle.message.proofs.Letters.{Which, typed, none, which, byType, chosen-by, long-letter, long-some, typed-by}
 use Rattle.message.proofs.Lawful.{all-each, lawful-is, is-lawful}
 

@@ -5,4 +5,5 @@ pub mod Lawful
 pub mod Exactly
 pub mod Trips
 pub mod Demand2
+pub mod Fitting
 pub mod Promise

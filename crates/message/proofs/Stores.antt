@@ -1,8 +1,8 @@
 -- The stores of each writer, one after the other, are one run: the bytes of that type; and how long each run is.
 -- Assumes nothing.
-use mathlib.Core.Path.{_≡_, refl, ap, sym, _∙_}
+use mathlib.Core.Path.{_≡_, ap, sym, _∙_}
 use mathlib.Core.Bool.{true}
-use mathlib.Core.List.{List, [], _∷_, _++_, append-assoc}
+use mathlib.Core.List.{List, [], _∷_, _++_}
 use Prim.Native.Nat.{ℕ, _+_}
 use native.Mathlib.Omega.{arith}
 use lib.ListN.{length, set, length-append}
@@ -11,7 +11,7 @@ use Rattle.octets.specs.Number.{digits}
 use Rattle.octets.proofs.Laws.{sets-then, digits-length}
 use Rattle.message.specs.declared.Sale.{Sale}
 use Rattle.message.specs.declared.Record.{Record}
-use Rattle.message.specs.Fits.{SaleFits, RecordFits}
+use Rattle.message.specs.Fits.{RecordFits}
 use Rattle.message.specs.Reading.{lengthBy, lawfulOf}
 use Rattle.message.specs.Writing.{saleBytes, headBytes, priceBytes, bytesS, bytesT, bytesC, bytesJ, bytesOf}
 use Rattle.message.specs.Layouts.{MessageType, S, T, X, C, J, letterOf, lengthOf}

@@ -3,9 +3,9 @@
 -- Assumes nothing.
 use mathlib.Core.Path.{_≡_, refl, ap, sym, _∙_}
 use mathlib.Core.Logic.{_↔_}
-use mathlib.Core.Bool.{Bool, true, false, _&&_, and-eq-true-iff}
+use mathlib.Core.Bool.{true, and-eq-true-iff}
 use mathlib.Core.List.{List, [], _∷_, _++_, append-nil}
-use Prim.Native.Nat.{ℕ, zero, suc, _+_, _-_, _*_, _/_, _%_, _^_, _≤_, _<_}
+use Prim.Native.Nat.{ℕ, zero, suc, _+_, _*_, _/_, _%_, _^_, _<_}
 use native.Mathlib.Nat.{pow-succ', add-zero, zero-add}
 use native.Mathlib.Omega.{arith}
 use borrow.Author.Tests.{eqb-true, eq-eqb}
@@ -13,9 +13,9 @@ use lib.Dec.{eqb}
 use lib.ListN.{length, drop, getD, replicate}
 use lib.Seq.{getD-drop, drop-drop, drop-at}
 use Rattle.octets.specs.Run.{tab, past, part, same, Bytes}
-use Rattle.octets.specs.Number.{beAfter, be, digits}
+use Rattle.octets.specs.Number.{be, digits}
 use Rattle.octets.specs.Text.{all}
-use Rattle.octets.proofs.Laws.{tab-length, tab-snoc, part-length, part-snoc, be-part, after-snoc}
+use Rattle.octets.proofs.Laws.{part-snoc, be-part, after-snoc}
 
 -- ---- numbers
 

@@ -1,12 +1,8 @@
 use Rattle.message.specs.Reading as R
-use mathlib.Core.Path.{_≡_, refl, ap, sym, _∙_}
+use mathlib.Core.Path.{sym, _∙_}
 use borrow.Author.Needs.{needs}
 use Rattle.message.proofs.judged.Statement.{statement}
 use Rattle.message.proofs.judged.Tie as tie
-use Rattle.message.proofs.judged.Reads as reads
-use Rattle.message.proofs.judged.Lts as lts
-use Rattle.message.proofs.fields.refused.Reads as refused-reads
-use Rattle.message.proofs.rules.lawful.Reads as lawful-reads
 
 lawful-requires : tie.Need-lawful-requires
 lawful-requires c κs = search needs

@@ -1,11 +1,7 @@
-use borrow.Author.Tests.{ne-eqb, eq-eqb}
+use borrow.Author.Tests.{ne-eqb}
 use Rattle.message.specs.Reading as R
-use mathlib.Core.Path.{_≡_, refl, ap, sym, _∙_}
-use borrow.Author.Needs.{needs}
 use Rattle.message.proofs.length_of.Statement.{statement}
 use Rattle.message.proofs.length_of.Tie as tie
-use Rattle.message.proofs.length_of.Reads as reads
-use Rattle.message.proofs.length_of.Lts as lts
 
 returns : tie.Need-returns
 unfolding R.lengthBy

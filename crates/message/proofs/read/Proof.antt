@@ -1,16 +1,13 @@
-use borrow.Author.Tests.{ne-eqb, eq-eqb}
+use Rattle.octets.specs.Run.{Bytes}
 use Rattle.message.specs.Reading as R
-use mathlib.Core.Path.{_≡_, refl, ap, sym, _∙_}
+use mathlib.Core.Path.{ap, _∙_}
 use borrow.Author.Needs.{needs}
 use Rattle.message.proofs.read.Statement.{statement}
 use Rattle.message.proofs.read.Tie as tie
-use Rattle.message.proofs.read.Reads as reads
-use Rattle.message.proofs.read.Lts as lts
-use Rattle.message.proofs.fields.fields.Reads as fields-reads
-use Rattle.message.proofs.fields.refused.Reads as refused-reads
-use Rattle.message.proofs.judged.Reads as judged-reads
-use Rattle.message.proofs.length_of.Reads as length-of-reads
-use Rattle.octets.proofs.run.byte.Reads as byte-reads
+
+-- what a call lends are bytes
+pub entered : (c : tie.After-shared-slice-known) → Bytes (c .before .args .message .now)
+entered c = λ i. c .shared-slice-known .given i .fits
 
 byte-requires : tie.Need-byte-requires
 byte-requires c κs = search needs

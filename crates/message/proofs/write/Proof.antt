@@ -1,23 +1,23 @@
-use Rattle.message.proofs.Stores.{Long, sale-length}
+use Rattle.message.proofs.Stores.{fits-long}
+use Rattle.message.specs.Fits.{RecordFits}
 use Rattle.message.proofs.Written.{written-done, written-short, written-broken}
-use Rattle.message.proofs.Stores.{Long, sale-length}
-use mathlib.Core.Path.{_≡_, refl, ap, sym, _∙_}
+use mathlib.Core.Path.{sym, _∙_}
 use borrow.Author.Needs.{needs}
 use Rattle.message.proofs.write.Statement.{statement}
 use Rattle.message.proofs.write.Tie as tie
-use Rattle.message.proofs.write.Reads as reads
-use Rattle.message.proofs.write.Lts as lts
-use Rattle.message.proofs.length_of.Reads as length-of-reads
-use Rattle.message.proofs.rules.lawful.Reads as lawful-reads
-use Rattle.message.proofs.store.store.Reads as store-reads
 
--- the texts of a record that came as a value
-long : (c : tie.Start) → Long (c .args .r)
-long c =
+-- the record that a call brings fits its types
+pub entered : (c : tie.Start) → RecordFits (c .args .r)
+entered c =
     record {
+      time = search needs;
       symbol = search needs;
-      sale = sale-length (c .args .r .sale) (search needs) (search needs);
-      new = sale-length (c .args .r .new) (search needs) (search needs);
+      sale = record { control = search needs; price = search needs; size = search needs; condition = search needs };
+      new = record { control = search needs; price = search needs; size = search needs; condition = search needs };
+      high = search needs;
+      low = search needs;
+      close = search needs;
+      consolidated = search needs;
     }
 
 lawful-requires : tie.Need-lawful-requires
@@ -35,7 +35,7 @@ same-length c = search needs
 returns : tie.Need-returns
 returns c =
     let d = c .before .before .before .before .before .before .before .before in
-    let w = written-done (d .args .r) (d .args .out .now) (long d) (rw (c .before .before .before .before .before .before .lawful .ensures, c .before .before .before .before .before .length-of .ensures) at (c .before .before .before .before .if1 .taken)) in
+    let w = written-done (d .args .r) (d .args .out .now) (fits-long (d .args .r) (entered d)) (rw (c .before .before .before .before .before .before .lawful .ensures, c .before .before .before .before .before .length-of .ensures) at (c .before .before .before .before .if1 .taken)) in
     (w .0, c .before .before .store .ensures ∙ w .1)
 
 returns-2 : tie.Need-returns-2

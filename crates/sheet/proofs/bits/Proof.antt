@@ -1,5 +1,5 @@
 -- `sheet::bits` reads the sheet: at a code of the tables by their rule, beyond them because the sheet has no code there.
-use mathlib.Core.Path.{_≡_, sym}
+use mathlib.Core.Path.{sym}
 use native.Mathlib.Omega.{arith}
 use borrow.Author.Needs.{needs}
 use borrow.Author.Tests.{ne-eqb}

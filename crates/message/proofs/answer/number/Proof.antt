@@ -1,10 +1,8 @@
 use Rattle.message.specs.Answers.{numberOf}
-use mathlib.Core.Path.{_≡_, refl, ap, sym, _∙_}
+use mathlib.Core.Path.{ap, sym}
 use borrow.Author.Needs.{needs}
 use Rattle.message.proofs.answer.number.Statement.{statement}
 use Rattle.message.proofs.answer.number.Tie as tie
-use Rattle.message.proofs.answer.number.Reads as reads
-use Rattle.message.proofs.answer.number.Lts as lts
 
 enum-told : tie.Need-enum-told
 enum-told c = search needs

@@ -1,18 +1,9 @@
 use borrow.Author.Tests.{ne-eqb, eq-eqb}
 use Rattle.message.specs.Reading as R
-use mathlib.Core.Path.{_≡_, refl, ap, sym, _∙_}
+use mathlib.Core.Path.{_∙_}
 use borrow.Author.Needs.{needs}
 use Rattle.message.proofs.fields.fields.Statement.{statement}
 use Rattle.message.proofs.fields.fields.Tie as tie
-use Rattle.message.proofs.fields.fields.Reads as reads
-use Rattle.message.proofs.fields.fields.Lts as lts
-use Rattle.message.proofs.fields.fields_j.Reads as fields-j-reads
-use Rattle.message.proofs.fields.fields_s.Reads as fields-s-reads
-use Rattle.message.proofs.fields.fields_trade.Reads as fields-trade-reads
-use Rattle.message.proofs.fields.no_sale.Reads as no-sale-reads
-use Rattle.message.proofs.fields.sale_at.Reads as sale-at-reads
-use Rattle.octets.proofs.number.number8.Reads as number8-reads
-use Rattle.octets.proofs.run.byte.Reads as byte-reads
 
 byte-requires : tie.Need-byte-requires
 byte-requires c κs = search needs

@@ -2,11 +2,6 @@ use Rattle.message.specs.Reading as R
 use borrow.Author.Needs.{needs}
 use Rattle.message.proofs.fields.fields_s.Statement.{statement}
 use Rattle.message.proofs.fields.fields_s.Tie as tie
-use Rattle.message.proofs.fields.fields_s.Reads as reads
-use Rattle.message.proofs.fields.fields_s.Lts as lts
-use Rattle.message.proofs.fields.no_sale.Reads as no-sale-reads
-use Rattle.octets.proofs.number.number4.Reads as number4-reads
-use Rattle.octets.proofs.run.byte.Reads as byte-reads
 
 number4-requires : tie.Need-number4-requires
 number4-requires c κs = search needs

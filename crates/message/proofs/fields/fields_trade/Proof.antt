@@ -2,12 +2,6 @@ use Rattle.message.specs.Reading as R
 use borrow.Author.Needs.{needs}
 use Rattle.message.proofs.fields.fields_trade.Statement.{statement}
 use Rattle.message.proofs.fields.fields_trade.Tie as tie
-use Rattle.message.proofs.fields.fields_trade.Reads as reads
-use Rattle.message.proofs.fields.fields_trade.Lts as lts
-use Rattle.message.proofs.fields.sale_at.Reads as sale-at-reads
-use Rattle.octets.proofs.number.number4.Reads as number4-reads
-use Rattle.octets.proofs.run.byte.Reads as byte-reads
-use Rattle.octets.proofs.run.fill.Reads as fill-reads
 
 number4-requires : tie.Need-number4-requires
 number4-requires c κs = search needs

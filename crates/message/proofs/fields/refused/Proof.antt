@@ -1,9 +1,6 @@
 use borrow.Author.Needs.{needs}
 use Rattle.message.proofs.fields.refused.Statement.{statement}
 use Rattle.message.proofs.fields.refused.Tie as tie
-use Rattle.message.proofs.fields.refused.Reads as reads
-use Rattle.message.proofs.fields.refused.Lts as lts
-use Rattle.message.proofs.fields.no_sale.Reads as no-sale-reads
 
 no-sale-requires : tie.Need-no-sale-requires
 no-sale-requires c κs = search needs

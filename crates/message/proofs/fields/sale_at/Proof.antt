@@ -2,10 +2,6 @@ use Rattle.message.specs.Reading as R
 use borrow.Author.Needs.{needs}
 use Rattle.message.proofs.fields.sale_at.Statement.{statement}
 use Rattle.message.proofs.fields.sale_at.Tie as tie
-use Rattle.message.proofs.fields.sale_at.Reads as reads
-use Rattle.message.proofs.fields.sale_at.Lts as lts
-use Rattle.octets.proofs.number.number4.Reads as number4-reads
-use Rattle.octets.proofs.run.fill.Reads as fill-reads
 
 slice-aggregate-fill : tie.Need-slice-aggregate-fill
 slice-aggregate-fill c = search needs

@@ -1,9 +1,6 @@
 use mathlib.Core.Bool.{or-assoc, or-false}
-use borrow.Author.Needs.{needs}
 use Rattle.message.proofs.rules.event_ok.Statement.{statement}
 use Rattle.message.proofs.rules.event_ok.Tie as tie
-use Rattle.message.proofs.rules.event_ok.Reads as reads
-use Rattle.message.proofs.rules.event_ok.Lts as lts
 
 returns : tie.Need-returns
 returns c = simp (or-assoc, or-false)

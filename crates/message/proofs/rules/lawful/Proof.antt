@@ -1,15 +1,8 @@
 use borrow.Author.Tests.{ne-eqb, eq-eqb}
 use Rattle.message.specs.Reading as R
-use mathlib.Core.Path.{_≡_, refl, ap, sym, _∙_}
 use borrow.Author.Needs.{needs}
 use Rattle.message.proofs.rules.lawful.Statement.{statement}
 use Rattle.message.proofs.rules.lawful.Tie as tie
-use Rattle.message.proofs.rules.lawful.Reads as reads
-use Rattle.message.proofs.rules.lawful.Lts as lts
-use Rattle.message.proofs.rules.lawful_c.Reads as lawful-c-reads
-use Rattle.message.proofs.rules.lawful_j.Reads as lawful-j-reads
-use Rattle.message.proofs.rules.lawful_s.Reads as lawful-s-reads
-use Rattle.message.proofs.rules.lawful_t.Reads as lawful-t-reads
 
 lawful-s-requires : tie.Need-lawful-s-requires
 lawful-s-requires c κs = search needs

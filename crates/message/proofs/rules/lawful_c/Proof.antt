@@ -2,11 +2,6 @@ use Rattle.message.specs.Reading as R
 use borrow.Author.Needs.{needs}
 use Rattle.message.proofs.rules.lawful_c.Statement.{statement}
 use Rattle.message.proofs.rules.lawful_c.Tie as tie
-use Rattle.message.proofs.rules.lawful_c.Reads as reads
-use Rattle.message.proofs.rules.lawful_c.Lts as lts
-use Rattle.message.proofs.rules.prices_none.Reads as prices-none-reads
-use Rattle.message.proofs.rules.sale_ok.Reads as sale-ok-reads
-use Rattle.message.proofs.rules.trade_ok.Reads as trade-ok-reads
 
 trade-ok-requires : tie.Need-trade-ok-requires
 trade-ok-requires c κs = search needs

@@ -2,13 +2,6 @@ use Rattle.message.specs.Reading as R
 use borrow.Author.Needs.{needs}
 use Rattle.message.proofs.rules.lawful_j.Statement.{statement}
 use Rattle.message.proofs.rules.lawful_j.Tie as tie
-use Rattle.message.proofs.rules.lawful_j.Reads as reads
-use Rattle.message.proofs.rules.lawful_j.Lts as lts
-use Rattle.message.proofs.rules.class_ok.Reads as class-ok-reads
-use Rattle.message.proofs.rules.sale_none.Reads as sale-none-reads
-use Rattle.message.proofs.rules.summary_price_ok.Reads as summary-price-ok-reads
-use Rattle.message.proofs.rules.time_ok.Reads as time-ok-reads
-use Rattle.octets.proofs.text.is_text.Reads as is-text-reads
 
 time-ok-requires : tie.Need-time-ok-requires
 time-ok-requires c κs = search needs

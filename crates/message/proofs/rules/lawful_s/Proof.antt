@@ -2,13 +2,6 @@ use Rattle.message.specs.Reading as R
 use borrow.Author.Needs.{needs}
 use Rattle.message.proofs.rules.lawful_s.Statement.{statement}
 use Rattle.message.proofs.rules.lawful_s.Tie as tie
-use Rattle.message.proofs.rules.lawful_s.Reads as reads
-use Rattle.message.proofs.rules.lawful_s.Lts as lts
-use Rattle.message.proofs.rules.event_ok.Reads as event-ok-reads
-use Rattle.message.proofs.rules.prices_none.Reads as prices-none-reads
-use Rattle.message.proofs.rules.sale_none.Reads as sale-none-reads
-use Rattle.message.proofs.rules.time_ok.Reads as time-ok-reads
-use Rattle.octets.proofs.text.is_all.Reads as is-all-reads
 
 time-ok-requires : tie.Need-time-ok-requires
 time-ok-requires c κs = search needs

@@ -2,9 +2,6 @@ use Rattle.message.specs.Reading as R
 use borrow.Author.Needs.{needs}
 use Rattle.message.proofs.rules.sale_none.Statement.{statement}
 use Rattle.message.proofs.rules.sale_none.Tie as tie
-use Rattle.message.proofs.rules.sale_none.Reads as reads
-use Rattle.message.proofs.rules.sale_none.Lts as lts
-use Rattle.octets.proofs.text.is_all.Reads as is-all-reads
 
 slice-aggregate-is-all : tie.Need-slice-aggregate-is-all
 slice-aggregate-is-all c = search needs

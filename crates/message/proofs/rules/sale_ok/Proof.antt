@@ -2,12 +2,6 @@ use Rattle.message.specs.Reading as R
 use borrow.Author.Needs.{needs}
 use Rattle.message.proofs.rules.sale_ok.Statement.{statement}
 use Rattle.message.proofs.rules.sale_ok.Tie as tie
-use Rattle.message.proofs.rules.sale_ok.Reads as reads
-use Rattle.message.proofs.rules.sale_ok.Lts as lts
-use Rattle.message.proofs.rules.price_ok.Reads as price-ok-reads
-use Rattle.message.proofs.rules.size_ok.Reads as size-ok-reads
-use Rattle.octets.proofs.text.is_text.Reads as is-text-reads
-use Rattle.sheet.proofs.condition_marks.Reads as condition-marks-reads
 
 condition-marks-requires : tie.Need-condition-marks-requires
 condition-marks-requires c κs = search needs

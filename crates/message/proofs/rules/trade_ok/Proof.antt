@@ -2,13 +2,6 @@ use Rattle.message.specs.Reading as R
 use borrow.Author.Needs.{needs}
 use Rattle.message.proofs.rules.trade_ok.Statement.{statement}
 use Rattle.message.proofs.rules.trade_ok.Tie as tie
-use Rattle.message.proofs.rules.trade_ok.Reads as reads
-use Rattle.message.proofs.rules.trade_ok.Lts as lts
-use Rattle.message.proofs.rules.centre_ok.Reads as centre-ok-reads
-use Rattle.message.proofs.rules.class_ok.Reads as class-ok-reads
-use Rattle.message.proofs.rules.sale_ok.Reads as sale-ok-reads
-use Rattle.message.proofs.rules.time_ok.Reads as time-ok-reads
-use Rattle.octets.proofs.text.is_text.Reads as is-text-reads
 
 time-ok-requires : tie.Need-time-ok-requires
 time-ok-requires c κs = search needs

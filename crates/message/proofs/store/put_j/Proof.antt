@@ -1,16 +1,9 @@
 use Rattle.message.proofs.Stores.{j-stored}
 use lib.ListN.{length}
-use mathlib.Core.Path.{_≡_, refl, ap, sym, _∙_}
+use mathlib.Core.Path.{_≡_}
 use borrow.Author.Needs.{needs}
 use Rattle.message.proofs.store.put_j.Statement.{statement}
 use Rattle.message.proofs.store.put_j.Tie as tie
-use Rattle.message.proofs.store.put_j.Reads as reads
-use Rattle.message.proofs.store.put_j.Lts as lts
-use Rattle.message.proofs.store.put_prices.Reads as put-prices-reads
-use Rattle.octets.proofs.number.put4.Reads as put4-reads
-use Rattle.octets.proofs.number.put8.Reads as put8-reads
-use Rattle.octets.proofs.run.paste.Reads as paste-reads
-use Rattle.octets.proofs.run.put_byte.Reads as put-byte-reads
 
 symbol-long : (c : tie.Start) → length (c .args .r .symbol) ≡ 8
 symbol-long c = search needs

@@ -1,11 +1,7 @@
 use Rattle.message.proofs.Stores.{prices-stored}
-use mathlib.Core.Path.{_≡_, refl, ap, sym, _∙_}
 use borrow.Author.Needs.{needs}
 use Rattle.message.proofs.store.put_prices.Statement.{statement}
 use Rattle.message.proofs.store.put_prices.Tie as tie
-use Rattle.message.proofs.store.put_prices.Reads as reads
-use Rattle.message.proofs.store.put_prices.Lts as lts
-use Rattle.octets.proofs.number.put4.Reads as put4-reads
 
 put4-requires : tie.Need-put4-requires
 put4-requires c κs = search needs

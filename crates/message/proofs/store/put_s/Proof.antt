@@ -1,12 +1,7 @@
 use Rattle.message.proofs.Stores.{s-stored}
-use mathlib.Core.Path.{_≡_, refl, ap, sym, _∙_}
 use borrow.Author.Needs.{needs}
 use Rattle.message.proofs.store.put_s.Statement.{statement}
 use Rattle.message.proofs.store.put_s.Tie as tie
-use Rattle.message.proofs.store.put_s.Reads as reads
-use Rattle.message.proofs.store.put_s.Lts as lts
-use Rattle.octets.proofs.number.put4.Reads as put4-reads
-use Rattle.octets.proofs.run.put_byte.Reads as put-byte-reads
 
 put4-requires : tie.Need-put4-requires
 put4-requires c κs = search needs

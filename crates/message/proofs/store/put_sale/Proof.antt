@@ -1,13 +1,9 @@
 use Rattle.message.proofs.Stores.{sale-stored}
 use lib.ListN.{length}
-use mathlib.Core.Path.{_≡_, refl, ap, sym, _∙_}
+use mathlib.Core.Path.{_≡_}
 use borrow.Author.Needs.{needs}
 use Rattle.message.proofs.store.put_sale.Statement.{statement}
 use Rattle.message.proofs.store.put_sale.Tie as tie
-use Rattle.message.proofs.store.put_sale.Reads as reads
-use Rattle.message.proofs.store.put_sale.Lts as lts
-use Rattle.octets.proofs.number.put4.Reads as put4-reads
-use Rattle.octets.proofs.run.paste.Reads as paste-reads
 
 control-long : (c : tie.Start) → length (c .args .s .control) ≡ 10
 control-long c = search needs

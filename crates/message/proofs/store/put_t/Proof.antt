@@ -1,13 +1,7 @@
 use Rattle.message.proofs.Stores.{t-stored, Long, sale-length}
-use mathlib.Core.Path.{_≡_, refl, ap, sym, _∙_}
 use borrow.Author.Needs.{needs}
 use Rattle.message.proofs.store.put_t.Statement.{statement}
 use Rattle.message.proofs.store.put_t.Tie as tie
-use Rattle.message.proofs.store.put_t.Reads as reads
-use Rattle.message.proofs.store.put_t.Lts as lts
-use Rattle.message.proofs.store.put_head.Reads as put-head-reads
-use Rattle.message.proofs.store.put_sale.Reads as put-sale-reads
-use Rattle.octets.proofs.number.put8.Reads as put8-reads
 
 -- the texts of a record that came as a value
 long : (c : tie.Start) → Long (c .args .r)

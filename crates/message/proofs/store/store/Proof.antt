@@ -1,15 +1,8 @@
 use borrow.Author.Tests.{ne-eqb, eq-eqb}
 use Rattle.message.specs.Writing as W
-use mathlib.Core.Path.{_≡_, refl, ap, sym, _∙_}
 use borrow.Author.Needs.{needs}
 use Rattle.message.proofs.store.store.Statement.{statement}
 use Rattle.message.proofs.store.store.Tie as tie
-use Rattle.message.proofs.store.store.Reads as reads
-use Rattle.message.proofs.store.store.Lts as lts
-use Rattle.message.proofs.store.put_c.Reads as put-c-reads
-use Rattle.message.proofs.store.put_j.Reads as put-j-reads
-use Rattle.message.proofs.store.put_s.Reads as put-s-reads
-use Rattle.message.proofs.store.put_t.Reads as put-t-reads
 
 put-s-requires : tie.Need-put-s-requires
 put-s-requires c κs = search needs

@@ -4,14 +4,10 @@ use Rattle.octets.specs.Run.{tab, part}
 use native.Mathlib.Numerals.{add-one}
 use Prim.Native.Nat.{ℕ, _-_, _≤_}
 use native.Mathlib.Omega.{arith}
-use mathlib.Core.Path.{_≡_, refl, ap, sym, _∙_}
+use mathlib.Core.Path.{_≡_, ap, _∙_}
 use borrow.Author.Needs.{needs}
 use Rattle.octets.proofs.number.number.Statement.{statement}
 use Rattle.octets.proofs.number.number.Tie as tie
-use Rattle.octets.proofs.number.number.Reads as reads
-use Rattle.octets.proofs.number.number.Lts as lts
-use Rattle.octets.proofs.number.wide.Reads as wide-reads
-use Rattle.octets.proofs.run.byte_past.Reads as byte-past-reads
 
 abbrev Inv-loop : tie.InvT-loop
 Inv-loop s at n sum₀ i₀ sum i = (i ≤ n) × (sum ≡ be (part s at i))

@@ -3,9 +3,6 @@ use native.Mathlib.Omega.{arith}
 use borrow.Author.Needs.{needs}
 use Rattle.octets.proofs.number.number4.Statement.{statement}
 use Rattle.octets.proofs.number.number4.Tie as tie
-use Rattle.octets.proofs.number.number4.Reads as reads
-use Rattle.octets.proofs.number.number4.Lts as lts
-use Rattle.octets.proofs.number.number.Reads as number-reads
 
 number-requires : tie.Need-number-requires
 number-requires c κs = search needs

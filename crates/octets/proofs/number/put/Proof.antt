@@ -2,15 +2,12 @@ use Rattle.octets.proofs.Laws.{put-turn}
 use Rattle.octets.specs.Number.{digits}
 use lib.Seq.{sets}
 use lib.ListN.{length, length-set}
-use Prim.Native.Nat.{ℕ, _+_, _-_, _≤_}
+use Prim.Native.Nat.{_≤_}
 use native.Mathlib.Omega.{arith}
-use mathlib.Core.Path.{_≡_, refl, ap, sym, _∙_}
+use mathlib.Core.Path.{_≡_, sym, _∙_}
 use borrow.Author.Needs.{needs}
 use Rattle.octets.proofs.number.put.Statement.{statement}
 use Rattle.octets.proofs.number.put.Tie as tie
-use Rattle.octets.proofs.number.put.Reads as reads
-use Rattle.octets.proofs.number.put.Lts as lts
-use Rattle.octets.proofs.run.put_past.Reads as put-past-reads
 
 abbrev Inv-loop : tie.InvT-loop
 Inv-loop out₀ at n x i₀ y₀ out i y = (i ≤ n) × (length out ≡ length out₀) × (sets out at (digits i y) ≡ sets out₀ at (digits n x))

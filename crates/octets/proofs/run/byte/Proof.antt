@@ -1,12 +1,7 @@
 use Rattle.octets.proofs.Laws.{past-end}
-use native.Mathlib.Omega.{arith}
-use lib.ListN.{List·getD-eq-default}
-use mathlib.Core.Path.{sym}
 use borrow.Author.Needs.{needs}
 use Rattle.octets.proofs.run.byte.Statement.{statement}
 use Rattle.octets.proofs.run.byte.Tie as tie
-use Rattle.octets.proofs.run.byte.Reads as reads
-use Rattle.octets.proofs.run.byte.Lts as lts
 
 shared-slice-read-result : tie.Need-shared-slice-read-result
 shared-slice-read-result c = search needs

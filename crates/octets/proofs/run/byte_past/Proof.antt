@@ -1,13 +1,9 @@
 use Prim.Native.Nat.{_+_}
 use Rattle.octets.proofs.Laws.{past-end}
 use native.Mathlib.Omega.{arith}
-use lib.ListN.{List·getD-eq-default}
-use mathlib.Core.Path.{sym}
 use borrow.Author.Needs.{needs}
 use Rattle.octets.proofs.run.byte_past.Statement.{statement}
 use Rattle.octets.proofs.run.byte_past.Tie as tie
-use Rattle.octets.proofs.run.byte_past.Reads as reads
-use Rattle.octets.proofs.run.byte_past.Lts as lts
 
 returns : tie.Need-returns
 returns c = past-end (c .before .args .s .now) (c .before .args .at + c .before .args .j) (omega arith)

@@ -1,7 +1,7 @@
 use Rattle.octets.proofs.Laws.{part-length}
 use Rattle.octets.proofs.Laws.{part-left}
 use Prim.Native.Nat.{_<_}
-use Rattle.octets.proofs.Laws.{fill-turn, sets-all, tab-end, tab-length}
+use Rattle.octets.proofs.Laws.{fill-turn, sets-all, tab-end}
 use Rattle.octets.specs.Run.{tab, past, part}
 use lib.Seq.{sets}
 use lib.ListN.{length, length-set}
@@ -12,9 +12,6 @@ use mathlib.Core.Path.{_≡_, refl, ap, sym, _∙_}
 use borrow.Author.Needs.{needs}
 use Rattle.octets.proofs.run.fill.Statement.{statement}
 use Rattle.octets.proofs.run.fill.Tie as tie
-use Rattle.octets.proofs.run.fill.Reads as reads
-use Rattle.octets.proofs.run.fill.Lts as lts
-use Rattle.octets.proofs.run.byte_past.Reads as byte-past-reads
 
 abbrev Inv-loop : tie.InvT-loop
 Inv-loop out₀ s at i₀ out i = (i ≤ length out₀) × (length out ≡ length out₀) × (sets out i (tab (past s at) i (length out₀ - i)) ≡ part s at (length out₀))

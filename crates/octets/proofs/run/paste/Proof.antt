@@ -9,9 +9,6 @@ use mathlib.Core.Path.{_≡_, refl, ap, sym, _∙_}
 use borrow.Author.Needs.{needs}
 use Rattle.octets.proofs.run.paste.Statement.{statement}
 use Rattle.octets.proofs.run.paste.Tie as tie
-use Rattle.octets.proofs.run.paste.Reads as reads
-use Rattle.octets.proofs.run.paste.Lts as lts
-use Rattle.octets.proofs.run.put_past.Reads as put-past-reads
 
 abbrev Inv-loop : tie.InvT-loop
 Inv-loop out₀ at s i₀ out i = (i ≤ length s) × (length out ≡ length out₀) × (sets out (at + i) (drop i s) ≡ sets out₀ at s)

@@ -3,8 +3,6 @@ use mathlib.Core.Path.{sym}
 use borrow.Author.Needs.{needs}
 use Rattle.octets.proofs.run.put_byte.Statement.{statement}
 use Rattle.octets.proofs.run.put_byte.Tie as tie
-use Rattle.octets.proofs.run.put_byte.Reads as reads
-use Rattle.octets.proofs.run.put_byte.Lts as lts
 
 slice-write-out : tie.Need-slice-write-out
 slice-write-out c = search needs

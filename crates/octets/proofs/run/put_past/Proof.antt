@@ -4,8 +4,6 @@ use mathlib.Core.Path.{sym}
 use borrow.Author.Needs.{needs}
 use Rattle.octets.proofs.run.put_past.Statement.{statement}
 use Rattle.octets.proofs.run.put_past.Tie as tie
-use Rattle.octets.proofs.run.put_past.Reads as reads
-use Rattle.octets.proofs.run.put_past.Lts as lts
 
 returns : tie.Need-returns
 returns c = sym (set-out _ _ _ (omega arith))

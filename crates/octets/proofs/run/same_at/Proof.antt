@@ -2,15 +2,11 @@ use Rattle.octets.proofs.Laws.{part-left}
 use Rattle.octets.proofs.Laws.{same-more, same-stop, same-end}
 use Rattle.octets.specs.Run.{tab, past, part, same}
 use lib.ListN.{length, drop}
-use Prim.Native.Nat.{ℕ, _-_, _≤_}
-use native.Mathlib.Omega.{arith}
-use mathlib.Core.Path.{_≡_, refl, ap, sym, _∙_}
+use Prim.Native.Nat.{_-_}
+use mathlib.Core.Path.{_≡_, sym, _∙_}
 use borrow.Author.Needs.{needs}
 use Rattle.octets.proofs.run.same_at.Statement.{statement}
 use Rattle.octets.proofs.run.same_at.Tie as tie
-use Rattle.octets.proofs.run.same_at.Reads as reads
-use Rattle.octets.proofs.run.same_at.Lts as lts
-use Rattle.octets.proofs.run.byte_past.Reads as byte-past-reads
 
 abbrev Inv-loop : tie.InvT-loop
 Inv-loop s at t i₀ i = same (tab (past s at) i (length t - i)) (drop i t) ≡ same (part s at (length t)) t

@@ -1,15 +1,12 @@
 use Rattle.octets.proofs.Laws.{ink-more, ink-stop, ink-end}
 use Rattle.octets.specs.Text as Text
 use lib.ListN.{length, drop}
-use Prim.Native.Nat.{ℕ, _+_, _-_, _≤_}
+use Prim.Native.Nat.{_+_, _-_, _≤_}
 use native.Mathlib.Omega.{arith}
-use mathlib.Core.Path.{_≡_, refl, ap, sym, _∙_}
+use mathlib.Core.Path.{_≡_, sym, _∙_}
 use borrow.Author.Needs.{needs}
 use Rattle.octets.proofs.text.inked.Statement.{statement}
 use Rattle.octets.proofs.text.inked.Tie as tie
-use Rattle.octets.proofs.text.inked.Reads as reads
-use Rattle.octets.proofs.text.inked.Lts as lts
-use Rattle.octets.proofs.text.is_ink.Reads as is-ink-reads
 
 abbrev Inv-loop : tie.InvT-loop
 Inv-loop s i₀ i = (i ≤ length s) × (i + Text.inked (drop i s) ≡ Text.inked s)

@@ -1,14 +1,11 @@
 use Rattle.octets.proofs.Laws.{all-more, all-stop, all-end}
 use Rattle.octets.specs.Text as Text
 use lib.ListN.{length, drop}
-use Prim.Native.Nat.{ℕ, _+_, _-_, _≤_}
-use native.Mathlib.Omega.{arith}
-use mathlib.Core.Path.{_≡_, refl, ap, sym, _∙_}
+use Prim.Native.Nat.{_-_}
+use mathlib.Core.Path.{_≡_, sym, _∙_}
 use borrow.Author.Needs.{needs}
 use Rattle.octets.proofs.text.is_all.Statement.{statement}
 use Rattle.octets.proofs.text.is_all.Tie as tie
-use Rattle.octets.proofs.text.is_all.Reads as reads
-use Rattle.octets.proofs.text.is_all.Lts as lts
 
 abbrev Inv-loop : tie.InvT-loop
 Inv-loop s from v i₀ i = Text.all v (drop i s) ≡ Text.all v (drop from s)

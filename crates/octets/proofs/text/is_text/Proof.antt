@@ -1,14 +1,8 @@
 use borrow.Author.Tests.{eq-eqb, ne-eqb}
 use Rattle.octets.specs.Text as Text
-use native.Mathlib.Omega.{arith}
-use mathlib.Core.Path.{_≡_, refl, ap, sym, _∙_}
 use borrow.Author.Needs.{needs}
 use Rattle.octets.proofs.text.is_text.Statement.{statement}
 use Rattle.octets.proofs.text.is_text.Tie as tie
-use Rattle.octets.proofs.text.is_text.Reads as reads
-use Rattle.octets.proofs.text.is_text.Lts as lts
-use Rattle.octets.proofs.text.inked.Reads as inked-reads
-use Rattle.octets.proofs.text.is_all.Reads as is-all-reads
 
 inked-requires : tie.Need-inked-requires
 inked-requires c κs = search needs
