@@ -5,5 +5,6 @@ pub mod Lawful
 pub mod Exactly
 pub mod Trips
 pub mod Demand2
+pub mod Samples
 pub mod Fitting
 pub mod Promise

@@ -3,17 +3,23 @@
 -- the call returns.
 -- Assumes nothing.
 use mathlib.Core.Path.{_≡_, refl, ap, sym, subst, _∙_}
-use Prim.Native.Nat.{ℕ}
+use mathlib.Core.List.{_++_}
+use Prim.Native.Nat.{ℕ, _≤_}
+use lib.ListN.{length, take, drop}
 use contract.Lifetimes.{Lfts}
 use borrow.Fn.World.{ArgsD}
 use borrow.Fn.Kinds.{endedOf}
 use denote.Triple.Clauses.{AtExit}
 use denote.Ref.{now}
+use Rattle.octets.specs.Run.{Bytes}
+use Rattle.message.specs.declared.Record.{Record}
 use Rattle.message.specs.declared.Reading.{Reading}
 use Rattle.message.specs.declared.answer.Answer.{Answer}
 use Rattle.message.specs.declared.answer.Answer.the-variants.{Done, NumberOutside, NumberBelow, NumberAbove, NoType, FieldBroken, NotDue, NotListed, NoLine, LineDead, LineDiffers, KeyUsed, LinesFull, ListingBroken, ListingLate, ListedAlready, RowsFull, Unsound, NoSpace}
 use Rattle.message.specs.Answers.{numberOf, answerOf}
-use Rattle.message.specs.Reading.{readOf}
+use Rattle.message.specs.Fits.{RecordFits}
+use Rattle.message.specs.Layouts.{lengthOf, Lawful}
+use Rattle.message.specs.Reading.{acceptedOf, readOf}
 use Rattle.message.specs.Writing.{writeAnswer, writeOut}
 use Rattle.message.proofs.read as read
 use Rattle.message.proofs.read.Reads as read-reads
@@ -22,7 +28,7 @@ use Rattle.message.proofs.write as write
 use Rattle.message.proofs.write.Reads as write-reads
 use Rattle.message.proofs.write.Kinds as write-kinds
 use Rattle.message.proofs.answer.number.Reads as number-reads
-use Rattle.message.proofs.Demand2.{ReadsExactly, read-exactly, WritesExactly, write-exactly}
+use Rattle.message.proofs.Demand2.{ReadsExactly, read-exactly, read-again, WritesExactly, write-exactly, write-again}
 
 module _ (κs : Lfts 1) (a : ArgsD read.signature κs) where
   -- what `read` tells of a message is what `readOf` says of its bytes, and nothing else
@@ -49,6 +55,33 @@ module _ (κs : Lfts 1) (a : ArgsD write.signature κs) where
   pub write-called : (r : Answer) (s : AtExit (endedOf 1 write-kinds.ps write-kinds.r) κs)
       → write-reads.Learnt κs a r s → WritesExactly (a .0) (now (a .1 .0)) r (now (s .1 .0))
   write-called r s h = rw (h .0, h .1) (write-exactly (a .0) (now (a .1 .0)))
+
+-- ---- the round trips, of calls
+
+module _ (κs κs′ : Lfts 1) (a : ArgsD read.signature κs) (b : ArgsD write.signature κs′) where
+  -- `read-again` of a call of `read` and then one of `write`, on the record that it found
+  pub again-called : (r : Reading) (s : AtExit (endedOf 1 read-kinds.ps read-kinds.r) κs)
+      (w : Answer) (x : AtExit (endedOf 1 write-kinds.ps write-kinds.r) κs′)
+      → read-reads.Learnt κs a r s → write-reads.Learnt κs′ b w x → b .0 ≡ r .found
+      → Bytes (now (a .0)) → numberOf (r .answer) ≡ 0 → length (now (a .0)) ≤ length (now (b .1 .0))
+      → (numberOf w ≡ 0) × (now (x .1 .0) ≡ now (a .0) ++ drop (length (now (a .0))) (now (b .1 .0)))
+  again-called r s w x h k e m z l =
+      let f : b .0 ≡ readOf (now (a .0)) .found = e ∙ ap (λ (o : Reading). o .found) h in
+      let g = read-again (now (a .0)) (now (b .1 .0)) m (sym (ap (λ (o : Reading). numberOf (o .answer)) h) ∙ z) l in (
+        ap numberOf (k .0 ∙ ap (λ (q : Record). writeAnswer q (now (b .1 .0))) f) ∙ g .0,
+        k .1 ∙ ap (λ (q : Record). writeOut q (now (b .1 .0))) f ∙ g .1,
+      )
+
+  -- `write-again` of a call of `write` and then one of `read`, on the message that it left
+  pub back-called : (r : Reading) (s : AtExit (endedOf 1 read-kinds.ps read-kinds.r) κs)
+      (w : Answer) (x : AtExit (endedOf 1 write-kinds.ps write-kinds.r) κs′)
+      → read-reads.Learnt κs a r s → write-reads.Learnt κs′ b w x
+      → RecordFits (b .0) → (l : Lawful (b .0)) → lengthOf (l .type) ≤ length (now (b .1 .0))
+      → now (a .0) ≡ take (lengthOf (l .type)) (now (x .1 .0)) → r ≡ acceptedOf (b .0)
+  back-called r s w x h k f l n e =
+      h ∙ ap readOf (e ∙ ap (take (lengthOf (l .type))) (k .1)) ∙ write-again (b .0) (now (b .1 .0)) f l n
+
+-- ---- numbers of answers
 
 pub number-one : (a e e′ : Answer) (r r′ : ℕ) → number-reads.Learnt tt (a, tt) r (e, tt) → number-reads.Learnt tt (a, tt) r′ (e′, tt) → r ≡ r′
 number-one a e e′ r r′ h h′ = h ∙ sym h′
