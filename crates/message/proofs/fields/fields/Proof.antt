@@ -26,7 +26,7 @@ fields-trade-requires c κs = search needs
 
 returns-2 : tie.Need-returns-2
 unfolding R.fieldsOf
-returns-2 c = simp (← c .before .before .before .before .before .byte .ensures, ne-eqb _ _ (c .before .before .before .before .if1 .left), eq-eqb _ _ (c .before .before .before .if2 .taken)) (c .fields-trade .ensures ∙ cc (c .before .number8 .ensures, c .before .before .sale-at .ensures))
+returns-2 c = simp (← c .before .before .before .before .before .byte .ensures, ne-eqb _ _ (c .before .before .before .before .if1 .left), eq-eqb _ _ (c .before .before .before .if2 .taken)) (c .fields-trade .ensures ∙ rw (c .before .number8 .ensures, c .before .before .sale-at .ensures))
 
 fields-j-requires : tie.Need-fields-j-requires
 fields-j-requires c κs = search needs
@@ -46,7 +46,7 @@ fields-trade-requires-2 c κs = search needs
 
 returns-4 : tie.Need-returns-4
 unfolding R.fieldsOf
-returns-4 c = simp (← c .before .before .before .before .before .before .byte .ensures, ne-eqb _ _ (c .before .before .before .before .before .if1 .left), ne-eqb _ _ (c .before .before .before .before .if2 .left), ne-eqb _ _ (c .before .before .before .if3 .left)) (c .fields-trade2 .ensures ∙ cc (c .before .number82 .ensures, c .before .before .no-sale .ensures))
+returns-4 c = simp (← c .before .before .before .before .before .before .byte .ensures, ne-eqb _ _ (c .before .before .before .before .before .if1 .left), ne-eqb _ _ (c .before .before .before .before .if2 .left), ne-eqb _ _ (c .before .before .before .if3 .left)) (c .fields-trade2 .ensures ∙ rw (c .before .number82 .ensures, c .before .before .no-sale .ensures))
 
 pub fields-spec : {M : Type 1} → statement M
 fields-spec =

@@ -38,7 +38,7 @@ number8-requires c κs = search needs
 
 returns : tie.Need-returns
 unfolding R.fieldsJ
-returns c = rw (c .number8 .ensures, c .before .number44 .ensures, c .before .before .number43 .ensures, c .before .before .before .number42 .ensures, c .before .before .before .before .no-sale2 .ensures, c .before .before .before .before .before .no-sale .ensures, c .before .before .before .before .before .before .byte2 .ensures, c .before .before .before .before .before .before .before .before .fill .ensures, c .before .before .before .before .before .before .before .before .before .before .byte .ensures, c .before .before .before .before .before .before .before .before .before .before .before .number4 .ensures)
+returns c = simp (c .number8 .ensures, c .before .number44 .ensures, c .before .before .number43 .ensures, c .before .before .before .number42 .ensures, c .before .before .before .before .no-sale2 .ensures, c .before .before .before .before .before .no-sale .ensures, c .before .before .before .before .before .before .byte2 .ensures, c .before .before .before .before .before .before .before .before .fill .ensures, c .before .before .before .before .before .before .before .before .before .before .byte .ensures, c .before .before .before .before .before .before .before .before .before .before .before .number4 .ensures)
 
 pub fields-j-spec : {M : Type 1} → statement M
 fields-j-spec =

@@ -20,7 +20,7 @@ no-sale-requires-2 c κs = search needs
 
 returns : tie.Need-returns
 unfolding R.fieldsS
-returns c = rw (c .no-sale2 .ensures, c .before .no-sale .ensures, c .before .before .byte2 .ensures, c .before .before .before .byte .ensures, c .before .before .before .before .number4 .ensures)
+returns c = simp (c .no-sale2 .ensures, c .before .no-sale .ensures, c .before .before .byte2 .ensures, c .before .before .before .byte .ensures, c .before .before .before .before .number4 .ensures)
 
 pub fields-s-spec : {M : Type 1} → statement M
 fields-s-spec =

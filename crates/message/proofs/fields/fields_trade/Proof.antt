@@ -26,7 +26,7 @@ sale-at-requires c κs = search needs
 
 returns : tie.Need-returns
 unfolding R.fieldsTrade
-returns c = rw (c .sale-at .ensures, c .before .byte3 .ensures, c .before .before .before .fill .ensures, c .before .before .before .before .before .byte2 .ensures, c .before .before .before .before .before .before .byte .ensures, c .before .before .before .before .before .before .before .number4 .ensures)
+returns c = simp (c .sale-at .ensures, c .before .byte3 .ensures, c .before .before .before .fill .ensures, c .before .before .before .before .before .byte2 .ensures, c .before .before .before .before .before .before .byte .ensures, c .before .before .before .before .before .before .before .number4 .ensures)
 
 pub fields-trade-spec : {M : Type 1} → statement M
 fields-trade-spec =

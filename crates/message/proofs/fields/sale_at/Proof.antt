@@ -32,7 +32,7 @@ fill-requires-2 c κs = search needs
 
 returns : tie.Need-returns
 unfolding R.saleAt
-returns c = rw (c .before .fill2 .ensures, c .before .before .before .number42 .ensures, c .before .before .before .before .number4 .ensures, c .before .before .before .before .before .before .fill .ensures)
+returns c = simp (c .before .fill2 .ensures, c .before .before .before .number42 .ensures, c .before .before .before .before .number4 .ensures, c .before .before .before .before .before .before .fill .ensures)
 
 pub sale-at-spec : {M : Type 1} → statement M
 sale-at-spec =
