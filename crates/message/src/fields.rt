@@ -1,8 +1,6 @@
 // The record that a message's bytes fill, type by type, before any rule is asked.
-use crate::Reading;
 use crate::Record;
 use crate::Sale;
-use crate::answer::Answer;
 use octets::number::number4;
 use octets::number::number8;
 use octets::run::byte;
@@ -11,7 +9,7 @@ ghost use mathlib.Core.Path.{_≡_};
 ghost use Prim.Native.Nat.{_≤_};
 ghost use Rattle.message.specs.Reading as R;
 
-fn no_sale() -> Sale
+pub(crate) fn no_sale() -> Sale
     ensures { λ r. ⌜ r ≡ R.noSale ⌝ }
 {
     Sale {
@@ -19,32 +17,6 @@ fn no_sale() -> Sale
         price: 0,
         size: 0,
         condition: [0u8; 4],
-    }
-}
-
-// A refusal hands back a record of zeros.
-pub fn refused(a: Answer) -> Reading
-    ensures { λ r. ⌜ r ≡ R.nothingWith a ⌝ }
-{
-    let sale = no_sale();
-    let new = no_sale();
-    let none = Record {
-        letter: 0,
-        time: 0,
-        event: 0,
-        centre: 0,
-        symbol: [0u8; 8],
-        class: 0,
-        sale: sale,
-        new: new,
-        high: 0,
-        low: 0,
-        close: 0,
-        consolidated: 0,
-    };
-    Reading {
-        answer: a,
-        found: none,
     }
 }
 
@@ -149,7 +121,7 @@ fn fields_j(m: &[u8]) -> Record
 }
 
 // The record by the letter at 4.
-pub fn fields(m: &[u8]) -> Record
+pub(crate) fn fields(m: &[u8]) -> Record
     ensures { λ r. ⌜ r ≡ R.fieldsOf (now (m .entry)) ⌝ }
 {
     let letter = byte(m, 4);

@@ -6,7 +6,7 @@ mod store;
 
 use answer::Answer;
 ghost use mathlib.Core.Path.{_≡_};
-ghost use Rattle.message.specs.Reading.{lengthBy, readOf, judgedOf};
+ghost use Rattle.message.specs.Reading.{lengthBy, readOf, judgedOf, nothingWith};
 ghost use Rattle.message.specs.Writing.{writeAnswer, writeOut};
 
 // What a message says of one trade: 22 bytes that stand alike wherever they occur.
@@ -54,6 +54,32 @@ fn length_of(letter: u8) -> usize
     }
 }
 
+// A refusal hands back a record of zeros.
+fn refused(a: Answer) -> Reading
+    ensures { λ r. ⌜ r ≡ nothingWith a ⌝ }
+{
+    let sale = fields::no_sale();
+    let new = fields::no_sale();
+    let none = Record {
+        letter: 0,
+        time: 0,
+        event: 0,
+        centre: 0,
+        symbol: [0u8; 8],
+        class: 0,
+        sale: sale,
+        new: new,
+        high: 0,
+        low: 0,
+        close: 0,
+        consolidated: 0,
+    };
+    Reading {
+        answer: a,
+        found: none,
+    }
+}
+
 fn judged(r: Record) -> Reading
     ensures { λ o. ⌜ o ≡ judgedOf r ⌝ }
 {
@@ -63,7 +89,7 @@ fn judged(r: Record) -> Reading
             found: r,
         }
     } else {
-        fields::refused(Answer::FieldBroken)
+        refused(Answer::FieldBroken)
     }
 }
 
@@ -74,7 +100,7 @@ pub fn read(message: &[u8]) -> Reading
     let letter = octets::run::byte(message, 4);
     let need = length_of(letter);
     if (need == 0) | (message.len() != need) {
-        return fields::refused(Answer::NoType);
+        return refused(Answer::NoType);
     }
     judged(fields::fields(message))
 }

@@ -135,7 +135,7 @@ fn lawful_j(r: Record) -> bool
 }
 
 // Whether a record keeps every rule of its type and has nothing in a field that the type lacks.
-pub fn lawful(r: Record) -> bool
+pub(crate) fn lawful(r: Record) -> bool
     ensures { λ b. ⌜ b ≡ R.lawfulOf r ⌝ }
 {
     let letter = r.letter;

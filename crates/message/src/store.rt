@@ -86,7 +86,7 @@ fn put_j(out: &mut [u8], r: Record)
 }
 
 // The bytes of a record, by its letter.
-pub fn store(out: &mut [u8], r: Record)
+pub(crate) fn store(out: &mut [u8], r: Record)
     ensures { λ _. ⌜ now (out .exit) ≡ sets (now (out .entry)) 0 (W.bytesOf r) ⌝ }
 {
     let letter = r.letter;

@@ -1,6 +1,6 @@
 use borrow.Author.Needs.{needs}
-use Rattle.message.proofs.fields.refused.Statement.{statement}
-use Rattle.message.proofs.fields.refused.Tie as tie
+use Rattle.message.proofs.refused.Statement.{statement}
+use Rattle.message.proofs.refused.Tie as tie
 
 no-sale-requires : tie.Need-no-sale-requires
 no-sale-requires c κs = search needs
