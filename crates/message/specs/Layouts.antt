@@ -27,7 +27,7 @@ pub data Entry : Type 0 where
   numberAt : Field → ℕ → ℕ → (ℕ → Bool) → Entry
   textAt : Field → ℕ → ℕ → (List ℕ → Bool) → Entry
 
--- system event, trade report, trade cancel/error, trade correction, end of day trade summary
+-- system event, trade report, trade cancel/error, trade correction, end of day trade summary, each by its letter
 pub data MessageType : Type 0 where
   S T X C J : MessageType
 
@@ -193,6 +193,7 @@ without es (f ∷ fs) = cond (among (map (λ e. placeOf (fieldOf e)) es) (placeO
 unfoldable pub lacked : MessageType → List Field
 lacked t = without (layoutOf t) allFields
 
+-- each field of the layout keeps its rule, and every other field is zero
 pub record Lawful (r : Record) : Type 0 where
   pub type : MessageType
   pub typed : r .letter ≡ letterOf type

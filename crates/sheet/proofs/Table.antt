@@ -1,5 +1,6 @@
 -- The tables' rule. antt computes the list of `bitsOf level` over the codes 32 to 95 and holds it against the program's table, whole;
 -- `at-code` makes of that the entry at each code, and `off-table` says that the sheet has no code beyond the tables.
+-- Assumes nothing.
 use mathlib.Core.Path.{_≡_, refl, _∙_, ap}
 use mathlib.Core.Bool.{Bool, true, false, cond, _&&_}
 use mathlib.Core.List.{List, [], _∷_}

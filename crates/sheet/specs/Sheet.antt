@@ -1,5 +1,6 @@
 -- The sale condition sheet of document 01, and what it says of one code and of a whole condition.
 -- A code stands here as the number of its letter's byte; the letters are above each row.
+-- Assumes nothing.
 use Prim.Native.Nat.{ℕ, _+_}
 use mathlib.Core.List.{List, [], _∷_}
 use mathlib.Core.Bool.{Bool, true, false, cond, _&&_, _||_}

@@ -1,6 +1,8 @@
-use Rattle.message.specs.Reading as R
+-- `message::judged` meets its contract.
+-- Assumes nothing.
 use mathlib.Core.Path.{sym, _∙_}
 use borrow.Author.Needs.{needs}
+use Rattle.message.specs.Reading as R
 use Rattle.message.proofs.judged.Statement.{statement}
 use Rattle.message.proofs.judged.Tie as tie
 

@@ -1,3 +1,5 @@
+-- `message::length_of` meets its contract.
+-- Assumes nothing.
 use borrow.Author.Tests.{ne-eqb}
 use Rattle.message.specs.Reading as R
 use Rattle.message.proofs.length_of.Statement.{statement}

@@ -1,7 +1,9 @@
-use Rattle.octets.specs.Run.{Bytes}
-use Rattle.message.specs.Reading as R
+-- `message::read` meets its contract.
+-- Assumes nothing.
 use mathlib.Core.Path.{ap, _∙_}
 use borrow.Author.Needs.{needs}
+use Rattle.octets.specs.Run.{Bytes}
+use Rattle.message.specs.Reading as R
 use Rattle.message.proofs.read.Statement.{statement}
 use Rattle.message.proofs.read.Tie as tie
 

@@ -1,3 +1,5 @@
+-- `message::refused` meets its contract.
+-- Assumes nothing.
 use borrow.Author.Needs.{needs}
 use Rattle.message.proofs.refused.Statement.{statement}
 use Rattle.message.proofs.refused.Tie as tie

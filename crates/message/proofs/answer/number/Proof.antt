@@ -1,6 +1,8 @@
-use Rattle.message.specs.Answers.{numberOf}
+-- `message::answer::number` meets its contract.
+-- Assumes nothing.
 use mathlib.Core.Path.{ap, sym}
 use borrow.Author.Needs.{needs}
+use Rattle.message.specs.Answers.{numberOf}
 use Rattle.message.proofs.answer.number.Statement.{statement}
 use Rattle.message.proofs.answer.number.Tie as tie
 

@@ -1,7 +1,9 @@
-use borrow.Author.Tests.{ne-eqb, eq-eqb}
-use Rattle.message.specs.Reading as R
+-- `message::fields::fields` meets its contract.
+-- Assumes nothing.
 use mathlib.Core.Path.{_∙_}
 use borrow.Author.Needs.{needs}
+use borrow.Author.Tests.{ne-eqb, eq-eqb}
+use Rattle.message.specs.Reading as R
 use Rattle.message.proofs.fields.fields.Statement.{statement}
 use Rattle.message.proofs.fields.fields.Tie as tie
 

@@ -1,5 +1,7 @@
-use Rattle.message.specs.Reading as R
+-- `message::fields::fields_s` meets its contract.
+-- Assumes nothing.
 use borrow.Author.Needs.{needs}
+use Rattle.message.specs.Reading as R
 use Rattle.message.proofs.fields.fields_s.Statement.{statement}
 use Rattle.message.proofs.fields.fields_s.Tie as tie
 

@@ -1,5 +1,7 @@
-use Rattle.message.specs.Reading as R
+-- `message::fields::sale_at` meets its contract.
+-- Assumes nothing.
 use borrow.Author.Needs.{needs}
+use Rattle.message.specs.Reading as R
 use Rattle.message.proofs.fields.sale_at.Statement.{statement}
 use Rattle.message.proofs.fields.sale_at.Tie as tie
 

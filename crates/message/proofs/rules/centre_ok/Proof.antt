@@ -1,3 +1,5 @@
+-- `message::rules::centre_ok` meets its contract.
+-- Assumes nothing.
 use mathlib.Core.Bool.{or-assoc, or-false}
 use Rattle.message.proofs.rules.centre_ok.Statement.{statement}
 use Rattle.message.proofs.rules.centre_ok.Tie as tie

@@ -1,3 +1,5 @@
+-- `message::rules::class_ok` meets its contract.
+-- Assumes nothing.
 use mathlib.Core.Bool.{or-assoc, or-false}
 use Rattle.message.proofs.rules.class_ok.Statement.{statement}
 use Rattle.message.proofs.rules.class_ok.Tie as tie

@@ -1,3 +1,5 @@
+-- `message::rules::event_ok` meets its contract.
+-- Assumes nothing.
 use mathlib.Core.Bool.{or-assoc, or-false}
 use Rattle.message.proofs.rules.event_ok.Statement.{statement}
 use Rattle.message.proofs.rules.event_ok.Tie as tie

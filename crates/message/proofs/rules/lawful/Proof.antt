@@ -1,6 +1,8 @@
+-- `message::rules::lawful` meets its contract.
+-- Assumes nothing.
+use borrow.Author.Needs.{needs}
 use borrow.Author.Tests.{ne-eqb, eq-eqb}
 use Rattle.message.specs.Reading as R
-use borrow.Author.Needs.{needs}
 use Rattle.message.proofs.rules.lawful.Statement.{statement}
 use Rattle.message.proofs.rules.lawful.Tie as tie
 

@@ -1,5 +1,7 @@
-use Rattle.message.specs.Reading as R
+-- `message::rules::lawful_c` meets its contract.
+-- Assumes nothing.
 use borrow.Author.Needs.{needs}
+use Rattle.message.specs.Reading as R
 use Rattle.message.proofs.rules.lawful_c.Statement.{statement}
 use Rattle.message.proofs.rules.lawful_c.Tie as tie
 

@@ -1,5 +1,7 @@
-use Rattle.message.specs.Reading as R
+-- `message::rules::lawful_j` meets its contract.
+-- Assumes nothing.
 use borrow.Author.Needs.{needs}
+use Rattle.message.specs.Reading as R
 use Rattle.message.proofs.rules.lawful_j.Statement.{statement}
 use Rattle.message.proofs.rules.lawful_j.Tie as tie
 

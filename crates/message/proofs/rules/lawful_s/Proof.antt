@@ -1,5 +1,7 @@
-use Rattle.message.specs.Reading as R
+-- `message::rules::lawful_s` meets its contract.
+-- Assumes nothing.
 use borrow.Author.Needs.{needs}
+use Rattle.message.specs.Reading as R
 use Rattle.message.proofs.rules.lawful_s.Statement.{statement}
 use Rattle.message.proofs.rules.lawful_s.Tie as tie
 

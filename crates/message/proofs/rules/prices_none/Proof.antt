@@ -1,3 +1,5 @@
+-- `message::rules::prices_none` meets its contract.
+-- Assumes nothing.
 use mathlib.Core.Path.{refl}
 use Rattle.message.specs.Reading as R
 use Rattle.message.proofs.rules.prices_none.Statement.{statement}

@@ -1,5 +1,7 @@
-use Rattle.message.specs.Reading as R
+-- `message::rules::sale_none` meets its contract.
+-- Assumes nothing.
 use borrow.Author.Needs.{needs}
+use Rattle.message.specs.Reading as R
 use Rattle.message.proofs.rules.sale_none.Statement.{statement}
 use Rattle.message.proofs.rules.sale_none.Tie as tie
 

@@ -1,5 +1,7 @@
-use Rattle.message.specs.Reading as R
+-- `message::rules::sale_ok` meets its contract.
+-- Assumes nothing.
 use borrow.Author.Needs.{needs}
+use Rattle.message.specs.Reading as R
 use Rattle.message.proofs.rules.sale_ok.Statement.{statement}
 use Rattle.message.proofs.rules.sale_ok.Tie as tie
 

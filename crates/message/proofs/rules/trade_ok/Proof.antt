@@ -1,5 +1,7 @@
-use Rattle.message.specs.Reading as R
+-- `message::rules::trade_ok` meets its contract.
+-- Assumes nothing.
 use borrow.Author.Needs.{needs}
+use Rattle.message.specs.Reading as R
 use Rattle.message.proofs.rules.trade_ok.Statement.{statement}
 use Rattle.message.proofs.rules.trade_ok.Tie as tie
 

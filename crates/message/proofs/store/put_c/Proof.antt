@@ -1,5 +1,7 @@
-use Rattle.message.proofs.Stores.{c-stored, Long, sale-length}
+-- `message::store::put_c` meets its contract.
+-- Assumes nothing.
 use borrow.Author.Needs.{needs}
+use Rattle.message.proofs.Stores.{c-stored, Long, sale-length}
 use Rattle.message.proofs.store.put_c.Statement.{statement}
 use Rattle.message.proofs.store.put_c.Tie as tie
 

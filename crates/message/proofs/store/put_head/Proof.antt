@@ -1,7 +1,9 @@
-use Rattle.message.proofs.Stores.{head-stored}
-use lib.ListN.{length}
+-- `message::store::put_head` meets its contract.
+-- Assumes nothing.
 use mathlib.Core.Path.{_≡_}
+use lib.ListN.{length}
 use borrow.Author.Needs.{needs}
+use Rattle.message.proofs.Stores.{head-stored}
 use Rattle.message.proofs.store.put_head.Statement.{statement}
 use Rattle.message.proofs.store.put_head.Tie as tie
 

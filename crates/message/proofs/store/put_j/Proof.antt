@@ -1,7 +1,9 @@
-use Rattle.message.proofs.Stores.{j-stored}
-use lib.ListN.{length}
+-- `message::store::put_j` meets its contract.
+-- Assumes nothing.
 use mathlib.Core.Path.{_≡_}
+use lib.ListN.{length}
 use borrow.Author.Needs.{needs}
+use Rattle.message.proofs.Stores.{j-stored}
 use Rattle.message.proofs.store.put_j.Statement.{statement}
 use Rattle.message.proofs.store.put_j.Tie as tie
 

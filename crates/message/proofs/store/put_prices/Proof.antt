@@ -1,5 +1,7 @@
-use Rattle.message.proofs.Stores.{prices-stored}
+-- `message::store::put_prices` meets its contract.
+-- Assumes nothing.
 use borrow.Author.Needs.{needs}
+use Rattle.message.proofs.Stores.{prices-stored}
 use Rattle.message.proofs.store.put_prices.Statement.{statement}
 use Rattle.message.proofs.store.put_prices.Tie as tie
 

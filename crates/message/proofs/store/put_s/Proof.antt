@@ -1,5 +1,7 @@
-use Rattle.message.proofs.Stores.{s-stored}
+-- `message::store::put_s` meets its contract.
+-- Assumes nothing.
 use borrow.Author.Needs.{needs}
+use Rattle.message.proofs.Stores.{s-stored}
 use Rattle.message.proofs.store.put_s.Statement.{statement}
 use Rattle.message.proofs.store.put_s.Tie as tie
 

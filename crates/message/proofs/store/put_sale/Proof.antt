@@ -1,7 +1,9 @@
-use Rattle.message.proofs.Stores.{sale-stored}
-use lib.ListN.{length}
+-- `message::store::put_sale` meets its contract.
+-- Assumes nothing.
 use mathlib.Core.Path.{_≡_}
+use lib.ListN.{length}
 use borrow.Author.Needs.{needs}
+use Rattle.message.proofs.Stores.{sale-stored}
 use Rattle.message.proofs.store.put_sale.Statement.{statement}
 use Rattle.message.proofs.store.put_sale.Tie as tie
 

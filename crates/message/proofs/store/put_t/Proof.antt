@@ -1,5 +1,7 @@
-use Rattle.message.proofs.Stores.{t-stored, Long, sale-length}
+-- `message::store::put_t` meets its contract.
+-- Assumes nothing.
 use borrow.Author.Needs.{needs}
+use Rattle.message.proofs.Stores.{t-stored, Long, sale-length}
 use Rattle.message.proofs.store.put_t.Statement.{statement}
 use Rattle.message.proofs.store.put_t.Tie as tie
 

@@ -1,6 +1,8 @@
+-- `message::store::store` meets its contract.
+-- Assumes nothing.
+use borrow.Author.Needs.{needs}
 use borrow.Author.Tests.{ne-eqb, eq-eqb}
 use Rattle.message.specs.Writing as W
-use borrow.Author.Needs.{needs}
 use Rattle.message.proofs.store.store.Statement.{statement}
 use Rattle.message.proofs.store.store.Tie as tie
 

@@ -1,11 +1,13 @@
+-- `octets::number::number` meets its contract. The loop: the sum is the number of the i bytes read.
+-- Assumes nothing.
+use mathlib.Core.Path.{_≡_, ap, _∙_}
+use Prim.Native.Nat.{ℕ, _-_, _≤_}
+use native.Mathlib.Numerals.{add-one}
+use native.Mathlib.Omega.{arith}
+use borrow.Author.Needs.{needs}
 use Rattle.octets.proofs.Laws.{be-part, be-fits}
 use Rattle.octets.specs.Number.{be}
 use Rattle.octets.specs.Run.{tab, part}
-use native.Mathlib.Numerals.{add-one}
-use Prim.Native.Nat.{ℕ, _-_, _≤_}
-use native.Mathlib.Omega.{arith}
-use mathlib.Core.Path.{_≡_, ap, _∙_}
-use borrow.Author.Needs.{needs}
 use Rattle.octets.proofs.number.number.Statement.{statement}
 use Rattle.octets.proofs.number.number.Tie as tie
 

@@ -1,6 +1,8 @@
-use Rattle.octets.proofs.Laws.{be-below}
+-- `octets::number::number4` meets its contract.
+-- Assumes nothing.
 use native.Mathlib.Omega.{arith}
 use borrow.Author.Needs.{needs}
+use Rattle.octets.proofs.Laws.{be-below}
 use Rattle.octets.proofs.number.number4.Statement.{statement}
 use Rattle.octets.proofs.number.number4.Tie as tie
 

@@ -1,11 +1,13 @@
-use Rattle.octets.proofs.Laws.{put-turn}
-use Rattle.octets.specs.Number.{digits}
-use lib.Seq.{sets}
-use lib.ListN.{length, length-set}
+-- `octets::number::put` meets its contract. The loop: what is left of the number, stored in the first i places, makes the whole.
+-- Assumes nothing.
+use mathlib.Core.Path.{_≡_, sym, _∙_}
 use Prim.Native.Nat.{_≤_}
 use native.Mathlib.Omega.{arith}
-use mathlib.Core.Path.{_≡_, sym, _∙_}
+use lib.ListN.{length, length-set}
+use lib.Seq.{sets}
 use borrow.Author.Needs.{needs}
+use Rattle.octets.proofs.Laws.{put-turn}
+use Rattle.octets.specs.Number.{digits}
 use Rattle.octets.proofs.number.put.Statement.{statement}
 use Rattle.octets.proofs.number.put.Tie as tie
 

@@ -1,10 +1,12 @@
-use Rattle.octets.proofs.Laws.{ink-more, ink-stop, ink-end}
-use Rattle.octets.specs.Text as Text
-use lib.ListN.{length, drop}
+-- `octets::text::inked` meets its contract. The loop: i bytes show, and what shows at the head of the rest comes on top.
+-- Assumes nothing.
+use mathlib.Core.Path.{_≡_, sym, _∙_}
 use Prim.Native.Nat.{_+_, _-_, _≤_}
 use native.Mathlib.Omega.{arith}
-use mathlib.Core.Path.{_≡_, sym, _∙_}
+use lib.ListN.{length, drop}
 use borrow.Author.Needs.{needs}
+use Rattle.octets.proofs.Laws.{ink-more, ink-stop, ink-end}
+use Rattle.octets.specs.Text as Text
 use Rattle.octets.proofs.text.inked.Statement.{statement}
 use Rattle.octets.proofs.text.inked.Tie as tie
 

@@ -1,9 +1,11 @@
+-- `octets::text::is_all` meets its contract. The loop: what is left of the run decides of the whole.
+-- Assumes nothing.
+use mathlib.Core.Path.{_≡_, sym, _∙_}
+use Prim.Native.Nat.{_-_}
+use lib.ListN.{length, drop}
+use borrow.Author.Needs.{needs}
 use Rattle.octets.proofs.Laws.{all-more, all-stop, all-end}
 use Rattle.octets.specs.Text as Text
-use lib.ListN.{length, drop}
-use Prim.Native.Nat.{_-_}
-use mathlib.Core.Path.{_≡_, sym, _∙_}
-use borrow.Author.Needs.{needs}
 use Rattle.octets.proofs.text.is_all.Statement.{statement}
 use Rattle.octets.proofs.text.is_all.Tie as tie
 

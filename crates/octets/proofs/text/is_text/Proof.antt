@@ -1,6 +1,8 @@
+-- `octets::text::is_text` meets its contract.
+-- Assumes nothing.
+use borrow.Author.Needs.{needs}
 use borrow.Author.Tests.{eq-eqb, ne-eqb}
 use Rattle.octets.specs.Text as Text
-use borrow.Author.Needs.{needs}
 use Rattle.octets.proofs.text.is_text.Statement.{statement}
 use Rattle.octets.proofs.text.is_text.Tie as tie
 
