@@ -1,4 +1,5 @@
--- What the struct types say of a sale and of a record: each text has its length, each number its width.
+-- What the struct types say of a sale and of a record, as far as writing and reading again needs it: each text has its
+-- length, and each number of four or eight bytes its width.
 -- Assumes nothing.
 use Prim.Native.Nat.{_^_, _<_}
 use mathlib.Core.Path.{_≡_}

@@ -63,10 +63,14 @@ toCondition t =
     ∷ textAt condition 33 4 Rules.condition
     ∷ []
 
+-- the whole of T, with its letter
+abbrev pub asT : MessageType → List Entry
+asT t = toCondition t ++ (numberAt consolidated 37 8 Rules.consolidated ∷ [])
+
 unfoldable pub layoutOf : MessageType → List Entry
 layoutOf S = numberAt time 0 4 Rules.time ∷ byteAt letter 4 (is S) ∷ byteAt event 5 Rules.event ∷ []
-layoutOf T = toCondition T ++ (numberAt consolidated 37 8 Rules.consolidated ∷ [])
-layoutOf X = toCondition X ++ (numberAt consolidated 37 8 Rules.consolidated ∷ [])
+layoutOf T = asT T
+layoutOf X = asT X
 layoutOf C =
     toCondition C
     ++ (textAt newControl 37 10 Rules.text

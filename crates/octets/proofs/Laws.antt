@@ -80,6 +80,13 @@ be-below m at (suc n) b =
     let r : be (part m at n) < 256 ^ n = be-below m at n b in
     omega (arith, e, r, b (at + n), pow-succ' 256 n)
 
+-- a number read from at most four bytes fits 32 bits
+pub be-narrow : (m : List ℕ) (at n x : ℕ) → Bytes m → n ≤ 4 → x ≡ be (part m at n) → x < 2 ^ 32
+be-narrow m at n x b l e =
+    let r : be (part m at n) < 256 ^ n = be-below m at n b in
+    let p : 256 ^ n ≤ 256 ^ 4 = pow-le-pow-right {n = 256} (lit< tt) l in
+    omega (arith, r, p)
+
 -- one more of at most eight bytes still fits 64 bits
 pub be-fits : (m : List ℕ) (at n : ℕ) → Bytes m → n < 8 → be (part m at n) * 256 + 255 < 2 ^ 64
 be-fits m at n b l =

@@ -1,8 +1,9 @@
 -- `octets::number::number4` meets its contract.
 -- Assumes nothing.
 use native.Mathlib.Omega.{arith}
+use lib.Dec.{lit≤}
 use borrow.Author.Needs.{needs}
-use Rattle.octets.proofs.Laws.{be-below}
+use Rattle.octets.proofs.Laws.{be-narrow}
 use Rattle.octets.proofs.number.number4.Statement.{statement}
 use Rattle.octets.proofs.number.number4.Tie as tie
 
@@ -12,7 +13,10 @@ number-requires c κs = search needs
 cast-result : tie.Need-cast-result
 cast-result c =
     let a = c .before .before .args in
-    omega (arith, be-below (a .s .now) (a .at) 4 (λ i. c .before .shared-slice-known .given i .fits))
+    omega (
+      arith,
+      be-narrow (a .s .now) (a .at) _ _ (λ i. c .before .shared-slice-known .given i .fits) (lit≤ tt) (c .number .ensures),
+    )
 
 returns : tie.Need-returns
 returns c = search needs
