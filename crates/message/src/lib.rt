@@ -1,8 +1,8 @@
 // One message of the feed, read from bytes and written to bytes.
 pub mod answer;
+mod bytes;
 mod fields;
 mod rules;
-mod store;
 
 use answer::Answer;
 ghost use mathlib.Core.Path.{_≡_};
@@ -114,7 +114,7 @@ pub fn write(r: Record, out: &mut [u8]) -> Answer
     let sound = rules::lawful(r);
     let room = length_of(letter) <= out.len();
     if sound & room {
-        store::store(out, r);
+        bytes::store(out, r);
         return Answer::Done;
     }
     if sound {

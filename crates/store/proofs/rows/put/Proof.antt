@@ -1,0 +1,72 @@
+-- `store::rows::put` meets its contract.
+-- Assumes nothing.
+use mathlib.Core.Path.{_≡_, sym}
+use Prim.Native.Nat.{_*_}
+use lib.ListN.{length, replicate}
+use Rattle.store.proofs.Laws.{inside, outside, row-stored}
+use Rattle.store.specs.Rows.{inRow, newRow}
+use borrow.Author.Needs.{needs}
+use borrow.Author.Needs.{needs}
+use Rattle.store.proofs.rows.put.Statement.{statement}
+use Rattle.store.proofs.rows.put.Tie as tie
+
+symbol-long : (s : tie.Start) → length (s .args .t3) ≡ 8
+symbol-long s = search needs
+
+limit-requires : tie.Need-limit-requires
+limit-requires c κs = search needs
+
+mul-at : tie.Need-mul-at
+mul-at c = search needs
+
+slice-aggregate-paste : tie.Need-slice-aggregate-paste
+slice-aggregate-paste c = search needs
+
+paste-requires : tie.Need-paste-requires
+paste-requires c κs = search needs
+
+add-put4 : tie.Need-add-put4
+add-put4 c = search needs
+
+put4-requires : tie.Need-put4-requires
+put4-requires c κs = search needs
+
+add-paste : tie.Need-add-paste
+add-paste c = search needs
+
+slice-aggregate-paste-2 : tie.Need-slice-aggregate-paste-2
+slice-aggregate-paste-2 c = search needs
+
+paste-requires-2 : tie.Need-paste-requires-2
+paste-requires-2 c κs = search needs
+
+same-length : tie.Need-same-length
+same-length c = search needs
+
+returns : tie.Need-returns
+unfolding inRow newRow
+returns c = 
+    let s = c .before .before .before .before .before .before .before .before .before .before .before .before .before .before .before .before .before in
+    let a = s .args in
+    rw (c .before .before .paste2 .ensures, c .before .before .before .before .before .before .before .put4 .ensures, c .before .before .before .before .before .before .before .before .before .before .before .paste .ensures, row-stored (a .rows .now) (a .i * 30) (a .t3) (replicate 18 0) (a .close) (symbol-long s)) (sym (inside _ _ _ _ _ (c .before .before .before .before .before .before .before .before .before .before .before .before .before .before .before .limit .ensures) (c .before .before .before .before .before .before .before .before .before .before .before .before .before .before .if1 .taken)))
+
+returns-2 : tie.Need-returns-2
+unfolding inRow
+returns-2 c = sym (outside _ _ _ _ _ (c .before .limit .ensures) (c .if1 .left))
+
+pub put-spec : {M : Type 1} → statement M
+put-spec =
+    tie.close
+    (tie.spec
+    limit-requires
+    mul-at
+    slice-aggregate-paste
+    paste-requires
+    add-put4
+    put4-requires
+    add-paste
+    slice-aggregate-paste-2
+    paste-requires-2
+    same-length
+    returns
+    returns-2)

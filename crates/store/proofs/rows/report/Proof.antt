@@ -1,0 +1,54 @@
+-- `store::rows::report` meets its contract.
+-- Assumes nothing.
+use mathlib.Core.Path.{sym}
+use Rattle.store.proofs.Laws.{inside, outside, report-stored}
+use Rattle.store.specs.Rows.{inRow}
+use borrow.Author.Needs.{needs}
+use borrow.Author.Needs.{needs}
+use Rattle.store.proofs.rows.report.Statement.{statement}
+use Rattle.store.proofs.rows.report.Tie as tie
+
+limit-requires : tie.Need-limit-requires
+limit-requires c κs = search needs
+
+mul-at : tie.Need-mul-at
+mul-at c = search needs
+
+add-put-byte : tie.Need-add-put-byte
+add-put-byte c = search needs
+
+put-byte-requires : tie.Need-put-byte-requires
+put-byte-requires c κs = search needs
+
+add-put8 : tie.Need-add-put8
+add-put8 c = search needs
+
+put8-requires : tie.Need-put8-requires
+put8-requires c κs = search needs
+
+same-length : tie.Need-same-length
+same-length c = search needs
+
+returns : tie.Need-returns
+unfolding inRow
+returns c = 
+    let s = c .before .before .before .before .before .before .before .before .before .before .before in
+    rw (c .before .before .put8 .ensures, c .before .before .before .before .before .before .put-byte .ensures, report-stored) (sym (inside _ _ _ _ _ (c .before .before .before .before .before .before .before .before .before .limit .ensures) (c .before .before .before .before .before .before .before .before .if1 .taken)))
+
+returns-2 : tie.Need-returns-2
+unfolding inRow
+returns-2 c = sym (outside _ _ _ _ _ (c .before .limit .ensures) (c .if1 .left))
+
+pub report-spec : {M : Type 1} → statement M
+report-spec =
+    tie.close
+    (tie.spec
+    limit-requires
+    mul-at
+    add-put-byte
+    put-byte-requires
+    add-put8
+    put8-requires
+    same-length
+    returns
+    returns-2)
