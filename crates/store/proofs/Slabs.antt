@@ -421,7 +421,7 @@ row-back w rest symbol at close l h d =
     let er : getD w (at + 21) 0 ≡ 0 = trips.first w (at + 21) 0 (replicate 8 0 ++ rest) d3 in
     rw (es, ec, em, er)
 
-new-row-length : (symbol : List ℕ) (close : ℕ) → length symbol ≡ 8 → length (newRow symbol close) ≡ 30
+pub new-row-length : (symbol : List ℕ) (close : ℕ) → length symbol ≡ 8 → length (newRow symbol close) ≡ 30
 unfolding newRow
 new-row-length symbol close l = simp length-append (omega (arith, digits-length 4 close))
 
@@ -434,7 +434,7 @@ report-back w rest at v h d =
     let volume : be (part w (at + 22) 8) ≡ v = number-here w (at + 22) 8 v rest d1 h in
     rw (e, volume)
 
-report-length : (v : ℕ) → length (reportBytes v) ≡ 9
+pub report-length : (v : ℕ) → length (reportBytes v) ≡ 9
 unfolding reportBytes
 report-length v = ap suc (digits-length 8 v)
 
@@ -452,7 +452,7 @@ summary-back w rest at h l hh hl d =
     let low : be (part w (at + 17) 4) ≡ l = number-here w (at + 17) 4 l rest d2 hl in
     rw (e, high, low)
 
-summary-length : (h l : ℕ) → length (summaryBytes h l) ≡ 9
+pub summary-length : (h l : ℕ) → length (summaryBytes h l) ≡ 9
 unfolding summaryBytes
 summary-length h l = simp length-append (omega (arith, digits-length 4 h, digits-length 4 l))
 

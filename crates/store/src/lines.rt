@@ -24,12 +24,19 @@ const CAP: usize = 65536;
 
 // The cell, and where each field stands in it; the key stands first.
 pub(crate) const CELL: usize = 40;
+
 pub(crate) const SYMBOL: usize = 11;
+
 pub(crate) const PRICE: usize = 19;
+
 pub(crate) const SIZE: usize = 23;
+
 pub(crate) const CONDITION: usize = 27;
+
 pub(crate) const PLACE: usize = 31;
+
 const TIME: usize = 35;
+
 pub(crate) const LIVE: usize = 39;
 
 // How many lines a room of that many bytes holds.
@@ -106,7 +113,11 @@ fn read(lines: &[u8], at: usize) -> Line
 pub fn get(lines: &[u8], i: usize) -> Line
     ensures { λ r. ⌜ r ≡ lineIn (now (lines .entry)) i ⌝ }
 {
-    if i < limit(lines.len()) { read(lines, i * CELL) } else { no_line() }
+    if i < limit(lines.len()) {
+        read(lines, i * CELL)
+    } else {
+        no_line()
+    }
 }
 
 fn mark_of(live: bool) -> u8

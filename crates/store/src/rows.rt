@@ -32,11 +32,17 @@ const CAP: usize = 256;
 
 // The cell, and where each field stands in it; the symbol stands first.
 const CELL: usize = 30;
+
 const CLOSE: usize = 8;
+
 const SUMMARY: usize = 12;
+
 const HIGH: usize = 13;
+
 const LOW: usize = 17;
+
 const REPORTED: usize = 21;
+
 const VOLUME: usize = 22;
 
 // How many rows a room of that many bytes holds.
@@ -116,7 +122,11 @@ fn no_row() -> Row
 pub fn get(rows: &[u8], i: usize) -> Row
     ensures { λ r. ⌜ r ≡ rowIn (now (rows .entry)) i ⌝ }
 {
-    if i < limit(rows.len()) { read(rows, i * CELL) } else { no_row() }
+    if i < limit(rows.len()) {
+        read(rows, i * CELL)
+    } else {
+        no_row()
+    }
 }
 
 // Stores a new row, without J and with nothing reported, as row i of the room, where the room has such a row.

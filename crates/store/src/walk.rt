@@ -42,13 +42,7 @@ fn higher(h: Price, marked: bool, p: u32) -> Price
     if marked {
         match h {
             Price::Absent => Price::Of(p),
-            Price::Of(q) => {
-                if q < p {
-                    Price::Of(p)
-                } else {
-                    Price::Of(q)
-                }
-            }
+            Price::Of(q) => { if q < p { Price::Of(p) } else { Price::Of(q) } }
         }
     } else {
         h
@@ -61,13 +55,7 @@ fn lowered(h: Price, marked: bool, p: u32) -> Price
     if marked {
         match h {
             Price::Absent => Price::Of(p),
-            Price::Of(q) => {
-                if p < q {
-                    Price::Of(p)
-                } else {
-                    Price::Of(q)
-                }
-            }
+            Price::Of(q) => { if p < q { Price::Of(p) } else { Price::Of(q) } }
         }
     } else {
         h

@@ -46,7 +46,7 @@ unfolding usedLines
 lines-holds c = (omega arith, omega (arith, c .lesser .ensures, c .before .limit .ensures), rw (sub-zero, c .lesser .ensures, c .before .limit .ensures))
 
 bytes-holds : tie.Need-bytes-holds Inv-bytes μ-bytes Inv-lines μ-lines
-bytes-holds c = (omega arith, rw (part-left, here (c .before .before .before .before .before )))
+bytes-holds c = (omega arith, rw (part-left, here (c .before .before .before .before .before)))
 
 mul-if3 : tie.Need-mul-if3 Inv-bytes μ-bytes Inv-lines μ-lines
 mul-if3 c = omega arith
@@ -58,7 +58,7 @@ shared-slice-read-if3 : tie.Need-shared-slice-read-if3 Inv-bytes μ-bytes Inv-li
 shared-slice-read-if3 c = omega arith
 
 array-read-if3 : tie.Need-array-read-if3 Inv-bytes μ-bytes Inv-lines μ-lines
-array-read-if3 c = omega (arith, key-long (c .before .before .before .before .before .before .before .before ))
+array-read-if3 c = omega (arith, key-long (c .before .before .before .before .before .before .before .before))
 
 add-j : tie.Need-add-j Inv-bytes μ-bytes Inv-lines μ-lines
 add-j c = omega arith
@@ -67,10 +67,10 @@ bytes-less : tie.Need-bytes-less Inv-bytes μ-bytes Inv-lines μ-lines
 bytes-less c = omega arith
 
 bytes-again : tie.Need-bytes-again Inv-bytes μ-bytes Inv-lines μ-lines
-bytes-again c = 
+bytes-again c =
     let a = c .before .before .before .before .before .before .before .before .before .args in
     let b = c .before .before .before .bytes in
-    (omega arith, sym (same-more (a .lines .now) (a .t3) _ (b .j) (omega (arith, key-long (c .before .before .before .before .before .before .before .before .before ))) (c .if3 .left)) ∙ b .inv .1)
+    (omega arith, sym (same-more (a .lines .now) (a .t3) _ (b .j) (omega (arith, key-long (c .before .before .before .before .before .before .before .before .before))) (c .if3 .left)) ∙ b .inv .1)
 
 add-i : tie.Need-add-i Inv-bytes μ-bytes Inv-lines μ-lines
 add-i c = omega arith
@@ -79,24 +79,24 @@ lines-less : tie.Need-lines-less Inv-bytes μ-bytes Inv-lines μ-lines
 lines-less c = omega arith
 
 lines-again : tie.Need-lines-again Inv-bytes μ-bytes Inv-lines μ-lines
-lines-again c = 
+lines-again c =
     let a = c .before .before .before .before .before .before .before .before .before .args in
     let b = c .before .before .before .bytes in
     let l = c .before .before .before .before .before .lines in
-    (omega arith, l .inv .1, sym (find-off (bears (a .t3)) (lineAt (a .lines .now)) (l .i) _ (c .before .before .before .before .if1 .left) (sym (b .inv .1) ∙ same-stop (a .lines .now) (a .t3) _ (b .j) (omega (arith, key-long (c .before .before .before .before .before .before .before .before .before ))) (c .if3 .taken))) ∙ l .inv .2)
+    (omega arith, l .inv .1, sym (find-off (bears (a .t3)) (lineAt (a .lines .now)) (l .i) _ (c .before .before .before .before .if1 .left) (sym (b .inv .1) ∙ same-stop (a .lines .now) (a .t3) _ (b .j) (omega (arith, key-long (c .before .before .before .before .before .before .before .before .before))) (c .if3 .taken))) ∙ l .inv .2)
 
 returns : tie.Need-returns Inv-bytes μ-bytes Inv-lines μ-lines
-returns c = 
+returns c =
     let a = c .before .before .before .before .before .args in
     let l = c .before .lines in
     sym (find-end (bears (a .t3)) (lineAt (a .lines .now)) (l .i) _ (c .if1 .taken)) ∙ l .inv .2
 
 returns-2 : tie.Need-returns-2 Inv-bytes μ-bytes Inv-lines μ-lines
-returns-2 c = 
+returns-2 c =
     let a = c .before .before .before .before .before .before .before .args in
     let b = c .before .bytes in
     let l = c .before .before .before .lines in
-    sym (find-on (bears (a .t3)) (lineAt (a .lines .now)) (l .i) _ (c .before .before .if1 .left) (sym (b .inv .1) ∙ same-end (a .lines .now) (a .t3) _ (b .j) (omega (arith, key-long (c .before .before .before .before .before .before .before ))))) ∙ l .inv .2
+    sym (find-on (bears (a .t3)) (lineAt (a .lines .now)) (l .i) _ (c .before .before .if1 .left) (sym (b .inv .1) ∙ same-end (a .lines .now) (a .t3) _ (b .j) (omega (arith, key-long (c .before .before .before .before .before .before .before))))) ∙ l .inv .2
 
 pub find-spec : {M : Type 1} → statement M
 find-spec =

@@ -48,10 +48,10 @@ same-at-requires : tie.Need-same-at-requires Inv-loop μ-loop
 same-at-requires c κs = search needs
 
 returns : tie.Need-returns Inv-loop μ-loop
-returns c = 
+returns c =
     let a = c .before .before .before .before .before .before .before .before .args in
     let l = c .before .before .before .before .loop in
-    sym (find-on (isOf (a .t3)) (rowAt (a .rows .now)) (l .i) _ (c .before .before .before .loop-test .taken) (here (c .before .before .before .before .before .before .before .before ) (l .i) ∙ sym (c .before .same-at .ensures) ∙ c .if1 .taken)) ∙ l .inv .2
+    sym (find-on (isOf (a .t3)) (rowAt (a .rows .now)) (l .i) _ (c .before .before .before .loop-test .taken) (here (c .before .before .before .before .before .before .before .before) (l .i) ∙ sym (c .before .same-at .ensures) ∙ c .if1 .taken)) ∙ l .inv .2
 
 add-i : tie.Need-add-i Inv-loop μ-loop
 add-i c = search needs
@@ -60,13 +60,13 @@ loop-less : tie.Need-loop-less Inv-loop μ-loop
 loop-less c = search needs
 
 loop-again : tie.Need-loop-again Inv-loop μ-loop
-loop-again c = 
+loop-again c =
     let a = c .before .before .before .before .before .before .before .before .args in
     let l = c .before .before .before .before .loop in
-    (omega arith, l .inv .1, sym (find-off (isOf (a .t3)) (rowAt (a .rows .now)) (l .i) _ (c .before .before .before .loop-test .taken) (here (c .before .before .before .before .before .before .before .before ) (l .i) ∙ sym (c .before .same-at .ensures) ∙ c .if1 .left)) ∙ l .inv .2)
+    (omega arith, l .inv .1, sym (find-off (isOf (a .t3)) (rowAt (a .rows .now)) (l .i) _ (c .before .before .before .loop-test .taken) (here (c .before .before .before .before .before .before .before .before) (l .i) ∙ sym (c .before .same-at .ensures) ∙ c .if1 .left)) ∙ l .inv .2)
 
 returns-2 : tie.Need-returns-2 Inv-loop μ-loop
-returns-2 c = 
+returns-2 c =
     let a = c .before .before .before .before .before .args in
     let l = c .before .loop in
     sym (find-end (isOf (a .t3)) (rowAt (a .rows .now)) (l .i) _ (c .loop-test .left)) ∙ l .inv .2

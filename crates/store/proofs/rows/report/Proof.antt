@@ -31,7 +31,7 @@ same-length c = search needs
 
 returns : tie.Need-returns
 unfolding inRow
-returns c = 
+returns c =
     let s = c .before .before .before .before .before .before .before .before .before .before .before in
     rw (c .before .before .put8 .ensures, c .before .before .before .before .before .before .put-byte .ensures, report-stored) (sym (inside _ _ _ _ _ (c .before .before .before .before .before .before .before .before .before .limit .ensures) (c .before .before .before .before .before .before .before .before .if1 .taken)))
 

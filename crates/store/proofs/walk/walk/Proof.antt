@@ -42,7 +42,7 @@ loop-less : tie.Need-loop-less Inv-loop μ-loop
 loop-less c = omega arith
 
 loop-again : tie.Need-loop-again Inv-loop μ-loop
-loop-again c = 
+loop-again c =
     let l = c .before .before .loop in
     (omega arith, l .inv .1, omega (arith, c .with-line .ensures .1), omega (arith, c .with-line .ensures .1), rw (c .with-line .ensures .0) (sym (fold-step _ _ _ _ _ (c .before .loop-test .taken)) ∙ l .inv .4))
 

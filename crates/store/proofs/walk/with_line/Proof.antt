@@ -75,14 +75,14 @@ with-sale-requires c κs = search needs
 
 returns-2 : tie.Need-returns-2
 unfolding sold
-returns-2 c = 
+returns-2 c =
     let s = c .before .before .before .before .before .before .before .before .before .before .before .before .before .before in
     let v = ap (λ (r : Figures). r .volume) (c .with-sale .ensures) in
     let n = ap (λ (r : Figures). r .count) (c .with-sale .ensures) in
     (tally-done _ _ _ _ _ _ _ _ _ _ (sym (c .before .before .before .before .before .before .before .before .before .before .before .before .byte .ensures) ∙ c .before .before .before .before .before .before .before .before .before .before .before .if1 .left) (same-here s (sym (c .before .before .before .before .before .before .before .before .before .same-at .ensures) ∙ c .before .before .before .before .before .before .before .before .if2 .taken)) (c .before .before .before .before .before .before .fill .ensures) (c .before .before .before .before .number4 .ensures) (c .before .before .before .number42 .ensures) (c .before .before .number43 .ensures) (c .before .condition-marks .ensures) (c .with-sale .ensures), omega (arith, v, n, c .before .before .before .number42 .ok))
 
 returns-3 : tie.Need-returns-3
-returns-3 c = (sym (tally-other _ _ _ _ (same-here (c .before .before .before .before .before .before ) (sym (c .before .same-at .ensures) ∙ c .if2 .left))), omega arith)
+returns-3 c = (sym (tally-other _ _ _ _ (same-here (c .before .before .before .before .before .before) (sym (c .before .same-at .ensures) ∙ c .if2 .left))), omega arith)
 
 pub with-line-spec : {M : Type 1} → statement M
 with-line-spec =

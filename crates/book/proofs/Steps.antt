@@ -1,0 +1,294 @@
+-- From what each call works out, branch by branch, to what it promises.
+-- Assumes nothing.
+use mathlib.Core.Path.{_≡_, refl, ap, sym, _∙_}
+use mathlib.Core.Bool.{Bool, true, false, cond, not, _&&_, _||_, true≢false}
+use mathlib.Core.List.{List}
+use Prim.Native.Nat.{ℕ, _≤_}
+use native.Mathlib.Omega.{arith}
+use borrow.Author.Tests.{eq-eqb, ne-eqb, eqb-true, eqb-false, leb-true, leb-false, lt-ltb, le-ltb}
+use lib.Dec.{eqb, ltb, leb}
+use lib.ListN.{length}
+use Rattle.octets.specs.Text.{text}
+use Rattle.message.specs.Answers.{numberOf, answerOf}
+use Rattle.message.specs.declared.answer.Answer.{Answer}
+use Rattle.message.specs.declared.Record.{Record}
+use Rattle.message.specs.declared.Reading.{Reading}
+use Rattle.message.specs.Reading.{readOf}
+use Rattle.store.specs.declared.Found.the-variants.{Nothing, At}
+use Rattle.store.specs.declared.rows.Row.{Row}
+use Rattle.store.specs.declared.walk.Figures.{Figures}
+use Rattle.store.specs.Lines.{usedLines, lineLimit, lineWith}
+use Rattle.store.specs.Rows.{usedRows, rowLimit, rowWith, rowIn, withRow}
+use Rattle.store.specs.Figures.{figuresOf}
+use Rattle.book.specs.declared.counters.Counters.{Counters}
+use Rattle.book.specs.declared.Said.{Said}
+use Rattle.book.specs.declared.Shown.{Shown}
+use Rattle.book.specs.declared.show.RowShown.{RowShown}
+use Rattle.book.specs.declared.judge.Verdict.{Verdict}
+use Rattle.book.specs.Counting.{usedUp, oneRowMore, sound}
+use Rattle.book.specs.Messages.{isEvent, isTrade, isCancel, isCorrection, namesOld, oldKey}
+use Rattle.book.specs.Table.{Case, inBook, isFound, listed, listTable, contentTable, numberTable}
+use Rattle.book.specs.Taking.{linesBy, rowsBy, takenBy, placeOf}
+use Rattle.book.specs.Showing.{shownOf, nothingShown}
+use Rattle.book.specs.Calls.{symbolsOf, listAnswer, listSaid, listRows, deliverAnswer, deliverSaid, deliverRows, deliverLines, rowAnswer, rowShown}
+use Rattle.book.specs.Working.{judgedBy, numberBy}
+use Rattle.book.proofs.Sound.{sound-gives}
+use Rattle.book.proofs.Tables.{listed-found, rows-full, judged-is, judged-row, judged-line, read-plain, Wanted, number-wanted, number-content, number-refused}
+use Rattle.book.proofs.Demand1.{answers-listed, refused-keeps}
+
+said-is : (s : Said) (a : Answer) (k : Counters) → a ≡ s .answer → k ≡ s .counters → record { answer = a; counters = k } ≡ s
+said-is s a k e f = rw (e, f)
+
+neither : (a b : Bool) → (a || b) ≡ false → (a ≡ false) × (b ≡ false)
+neither false b e = (refl, e)
+neither true b e = absurd (true≢false e)
+
+-- above is not at most
+above-is : (x y : ℕ) → ltb y x ≡ not (leb x y)
+above-is x y = go (leb x y) refl
+  where
+    go : (t : Bool) → leb x y ≡ t → ltb y x ≡ not t
+    go true t = le-ltb y x (leb-true x y t)
+    go false t = lt-ltb y x (leb-false x y t)
+
+-- a rule is broken exactly where not both are kept
+broken-is : (b : Bool) (x y : ℕ) (t : Bool) → (b && leb x y) ≡ t → (not b || ltb y x) ≡ not t
+broken-is true x y t e = above-is x y ∙ ap not e
+broken-is false x y t e = ap not e
+
+-- 0 is given in a sound book only
+sound-there : (b : Bool) (cases : List Case) → inBook b cases ≡ 0 → b ≡ true
+sound-there true cases e = refl
+sound-there false cases e = absurd (omega arith)
+
+module _ (c : Counters) (rows lines : List ℕ) where
+  abbrev safe : Bool
+  safe = sound c (length rows) (length lines)
+
+  -- ---- a listing judged
+
+  module _ (symbol : List ℕ) (close : ℕ) where
+    abbrev answer : ℕ
+    answer = listAnswer c rows lines symbol close
+
+    abbrev there : List Row
+    there = usedRows rows (c .rows)
+
+    pub list-unsound : safe ≡ false → answerOf 17 ≡ answerOf answer
+    unfolding listAnswer
+    list-unsound s = rw s
+
+    module _ (s : safe ≡ true) where
+      pub list-broken : (text symbol && leb close 2000000000) ≡ false → answerOf 13 ≡ answerOf answer
+      unfolding listAnswer listTable
+      list-broken e = rw (s, broken-is (text symbol) close 2000000000 false e)
+
+      module _ (k : (text symbol && leb close 2000000000) ≡ true) where
+        pub list-late : (c .wanted ≡ 1 → ⊥) → answerOf 14 ≡ answerOf answer
+        unfolding listAnswer listTable
+        list-late e = rw (s, broken-is (text symbol) close 2000000000 true k, ne-eqb (c .wanted) 1 e)
+
+        module _ (w : c .wanted ≡ 1) where
+          pub list-there : (i : ℕ) → rowWith symbol there ≡ At i → answerOf 15 ≡ answerOf answer
+          unfolding listAnswer listTable
+          list-there i e =
+              let l : listed symbol (symbolsOf there) ≡ true = sym (listed-found symbol there) ∙ ap isFound e in
+              rw (s, broken-is (text symbol) close 2000000000 true k, eq-eqb (c .wanted) 1 w, l)
+
+          pub list-new : rowWith symbol there ≡ Nothing → (b : Bool) → leb (rowLimit (length rows)) (c .rows) ≡ b
+              → answerOf (cond b 16 0) ≡ answerOf answer
+          unfolding listAnswer listTable
+          list-new e b f =
+              let l : listed symbol (symbolsOf there) ≡ false = sym (listed-found symbol there) ∙ ap isFound e in
+              rw (s, broken-is (text symbol) close 2000000000 true k, eq-eqb (c .wanted) 1 w, l, rows-full rows (c .rows), f)
+
+    -- ---- a listing done
+
+    module _ (a : Answer) (e : a ≡ answerOf answer) where
+      number-told : numberOf a ≡ answer
+      unfolding listSaid
+      number-told = ap numberOf e ∙ answers-listed c rows lines .list symbol close .1
+
+      pub list-refused : (numberOf a ≡ 0 → ⊥)
+          → (record { answer = a; counters = c } ≡ listSaid c rows lines symbol close) × (rows ≡ listRows c rows lines symbol close)
+      unfolding listSaid
+      list-refused z =
+          let k = refused-keeps c rows lines .list symbol close (λ q. z (number-told ∙ q)) in
+          (said-is (listSaid c rows lines symbol close) a c e (sym (k .0)), sym (k .1))
+
+      module _ (z : numberOf a ≡ 0) where
+        taken : answer ≡ 0
+        taken = sym number-told ∙ z
+
+        pub list-fits : c .rows ≤ 256
+        unfolding listAnswer
+        list-fits = omega (arith, sound-gives c (length rows) (length lines) (sound-there safe (listTable (c .wanted) (symbolsOf there) (rowLimit (length rows)) symbol close) taken) .rowsFit)
+
+        pub list-said : (k : Counters) → k ≡ oneRowMore c → record { answer = answerOf 0; counters = k } ≡ listSaid c rows lines symbol close
+        unfolding listSaid
+        list-said k f = rw (taken, f)
+
+        pub list-rows : (out : List ℕ) → out ≡ withRow rows (c .rows) symbol close → out ≡ listRows c rows lines symbol close
+        unfolding listRows
+        list-rows out f = rw taken f
+
+  -- ---- a message judged, under the wanted number
+
+  module _ (m : List ℕ) (w : Wanted safe (c .wanted) (c .wanted)) (q : Reading) (f : q ≡ readOf m) (v : Verdict)
+      (g : v ≡ judgedBy (c .phase) (usedRows rows (c .rows)) (usedLines lines (c .lines)) (lineLimit (length lines)) q) where
+    abbrev it : Verdict
+    it = judgedBy (c .phase) (usedRows rows (c .rows)) (usedLines lines (c .lines)) (lineLimit (length lines)) (readOf m)
+
+    judged : v ≡ it
+    judged = g ∙ ap (judgedBy (c .phase) (usedRows rows (c .rows)) (usedLines lines (c .lines)) (lineLimit (length lines))) f
+
+    abbrev given : ℕ
+    given = deliverAnswer c rows lines (c .wanted) m
+
+    answer-is : v .answer ≡ answerOf given
+    unfolding deliverAnswer
+    answer-is =
+        ap (λ (x : Verdict). x .answer) judged
+        ∙ judged-is (c .phase) (usedRows rows (c .rows)) (usedLines lines (c .lines)) (lineLimit (length lines)) (readOf m) (read-plain m)
+        ∙ ap answerOf (sym (number-content safe (c .wanted) (c .wanted) _ w))
+
+    number-is : numberOf (v .answer) ≡ given
+    unfolding deliverSaid
+    number-is = ap numberOf answer-is ∙ answers-listed c rows lines .deliver (c .wanted) m .1
+
+    module _ (z : numberOf (v .answer) ≡ 0 → ⊥) where
+      pub refused-said : (k : Counters) → k ≡ usedUp c → record { answer = v .answer; counters = k } ≡ deliverSaid c rows lines (c .wanted) m
+      unfolding deliverSaid
+      refused-said k e =
+          said-is (deliverSaid c rows lines (c .wanted) m) (v .answer) k answer-is
+          (e ∙ sym (refused-keeps c rows lines .used (c .wanted) m (w .sound) refl (w .below) (λ p. z (number-is ∙ p))))
+
+      pub refused-rows : rows ≡ deliverRows c rows lines (c .wanted) m
+      refused-rows = sym (refused-keeps c rows lines .deliver (c .wanted) m (λ p. z (number-is ∙ p)) .0)
+
+      pub refused-lines : lines ≡ deliverLines c rows lines (c .wanted) m
+      refused-lines = sym (refused-keeps c rows lines .deliver (c .wanted) m (λ p. z (number-is ∙ p)) .1)
+
+    module _ (z : numberOf (v .answer) ≡ 0) where
+      given-none : given ≡ 0
+      given-none = sym number-is ∙ z
+
+      z-it : numberOf (it .answer) ≡ 0
+      z-it = ap (λ (x : Verdict). numberOf (x .answer)) (sym judged) ∙ z
+
+      pub taken-said : (k : Counters) → k ≡ takenBy (q .found) c → record { answer = answerOf 0; counters = k } ≡ deliverSaid c rows lines (c .wanted) m
+      unfolding deliverSaid
+      taken-said k e = rw given-none (ap (λ (x : Counters). record { answer = answerOf 0; counters = x }) (e ∙ ap (λ (x : Reading). takenBy (x .found) c) f))
+
+      -- the row acted on is the first of the symbol
+      row-is : rowsBy rows (readOf m .found) (it .row) ≡ rowsBy rows (readOf m .found) (placeOf (rowWith (readOf m .found .symbol) (usedRows rows (c .rows))))
+      unfolding rowsBy
+      row-is = go (isEvent (readOf m .found)) refl
+        where
+          go : (t : Bool) → isEvent (readOf m .found) ≡ t
+              → rowsBy rows (readOf m .found) (it .row) ≡ rowsBy rows (readOf m .found) (placeOf (rowWith (readOf m .found .symbol) (usedRows rows (c .rows))))
+          go true t = rw t
+          go false t = rw (judged-row (c .phase) (usedRows rows (c .rows)) (usedLines lines (c .lines)) (lineLimit (length lines)) (readOf m) z-it t)
+
+      pub taken-rows : (out : List ℕ) → out ≡ rowsBy rows (q .found) (v .row) → out ≡ deliverRows c rows lines (c .wanted) m
+      unfolding deliverRows
+      taken-rows out e =
+          rw given-none (
+          e
+          ∙ ap (λ (x : Reading). rowsBy rows (x .found) (v .row)) f
+          ∙ ap (λ (x : Verdict). rowsBy rows (readOf m .found) (x .row)) judged
+          ∙ row-is)
+
+      -- the line acted on is the first that bears the named key; where none is named, none is asked for
+      line-is : linesBy lines (c .lines) (c .wanted) (readOf m .found) (it .line)
+          ≡ linesBy lines (c .lines) (c .wanted) (readOf m .found) (placeOf (lineWith (oldKey (readOf m .found)) (usedLines lines (c .lines))))
+      unfolding linesBy
+      line-is = go (namesOld (readOf m .found)) refl
+        where
+          go : (t : Bool) → namesOld (readOf m .found) ≡ t
+              → linesBy lines (c .lines) (c .wanted) (readOf m .found) (it .line)
+              ≡ linesBy lines (c .lines) (c .wanted) (readOf m .found) (placeOf (lineWith (oldKey (readOf m .found)) (usedLines lines (c .lines))))
+          go true t = rw (judged-line (c .phase) (usedRows rows (c .rows)) (usedLines lines (c .lines)) (lineLimit (length lines)) (readOf m) z-it t)
+          go false t = let n = neither (isCancel (readOf m .found)) (isCorrection (readOf m .found)) t in rw (n .0, n .1)
+
+      pub taken-lines : (out : List ℕ) → out ≡ linesBy lines (c .lines) (c .wanted) (q .found) (v .line) → out ≡ deliverLines c rows lines (c .wanted) m
+      unfolding deliverLines
+      taken-lines out e =
+          rw given-none (
+          e
+          ∙ ap (λ (x : Reading). linesBy lines (c .lines) (c .wanted) (x .found) (v .line)) f
+          ∙ ap (λ (x : Verdict). linesBy lines (c .lines) (c .wanted) (readOf m .found) (x .line)) judged
+          ∙ line-is)
+
+  -- ---- a message under any number
+
+  module _ (n : ℕ) (m : List ℕ) (a : Answer) (e : a ≡ answerOf (numberBy c (length rows) (length lines) n)) where
+    abbrev early : ℕ
+    early = numberBy c (length rows) (length lines) n
+
+    early-wanted : early ≡ 0 → Wanted safe (c .wanted) n
+    unfolding numberBy
+    early-wanted z = number-wanted safe (c .wanted) n .0 z
+
+    wanted-early : Wanted safe (c .wanted) n → early ≡ 0
+    unfolding numberBy
+    wanted-early w = number-wanted safe (c .wanted) n .1 w
+
+    early-answer : (Wanted safe (c .wanted) n → ⊥) → deliverAnswer c rows lines n m ≡ early
+    unfolding numberBy deliverAnswer
+    early-answer h = number-refused safe (c .wanted) n _ h
+
+    early-number : (early ≡ 0 → ⊥) → numberOf a ≡ early
+    unfolding deliverSaid
+    early-number h =
+        let g = early-answer (λ w. h (wanted-early w)) in
+        ap numberOf (e ∙ ap answerOf (sym g)) ∙ answers-listed c rows lines .deliver n m .1 ∙ g
+
+    pub wanted-is : numberOf a ≡ 0 → Wanted safe (c .wanted) n
+    wanted-is z = go (eqb early 0) refl
+      where
+        go : (t : Bool) → eqb early 0 ≡ t → Wanted safe (c .wanted) n
+        go true t = early-wanted (eqb-true early 0 t)
+        go false t = let h = eqb-false early 0 t in absurd (h (sym (early-number h) ∙ z))
+
+    -- so the call that uses the number up may be made, and what it promises is the whole call's
+    pub wanted-number : numberOf a ≡ 0 → numberBy c (length rows) (length lines) (c .wanted) ≡ 0
+    unfolding numberBy
+    wanted-number z = let w = wanted-is z in ap (λ (k : ℕ). numberBy c (length rows) (length lines) k) (sym (w .wanted)) ∙ wanted-early w
+
+    pub wanted-said : numberOf a ≡ 0 → (s : Said) (r l : List ℕ)
+        → (s ≡ deliverSaid c rows lines (c .wanted) m) × ((r ≡ deliverRows c rows lines (c .wanted) m) × (l ≡ deliverLines c rows lines (c .wanted) m))
+        → (s ≡ deliverSaid c rows lines n m) × ((r ≡ deliverRows c rows lines n m) × (l ≡ deliverLines c rows lines n m))
+    wanted-said z s r l h = rw (wanted-is z .wanted) h
+
+    pub early-said : (numberOf a ≡ 0 → ⊥)
+        → (record { answer = a; counters = c } ≡ deliverSaid c rows lines n m) × ((rows ≡ deliverRows c rows lines n m) × (lines ≡ deliverLines c rows lines n m))
+    unfolding deliverSaid
+    early-said z =
+        let h : early ≡ 0 → ⊥ = λ p. z (ap numberOf (e ∙ ap answerOf p)) in
+        let u = refused-keeps c rows lines .unused n m (λ s w f. h (wanted-early (record { sound = s; wanted = w; above = omega (arith, sound-gives c (length rows) (length lines) s .least); below = f }))) in
+        let k = refused-keeps c rows lines .deliver n m (u .0) in
+        let g = early-answer (λ w. h (wanted-early w)) in
+        (said-is (deliverSaid c rows lines n m) a c (e ∙ ap answerOf (sym g)) (sym (u .1)), (sym (k .0), sym (k .1)))
+
+  -- ---- a row read
+
+  module _ (symbol : List ℕ) where
+    pub row-unsound : (x : RowShown) → x ≡ nothingShown → safe ≡ false → record { answer = answerOf 17; row = x } ≡ rowShown c rows lines symbol
+    unfolding rowShown rowAnswer
+    row-unsound x e s = rw (s, e)
+
+    pub row-none : (x : RowShown) → x ≡ nothingShown → safe ≡ true → rowWith symbol (usedRows rows (c .rows)) ≡ Nothing
+        → record { answer = answerOf 7; row = x } ≡ rowShown c rows lines symbol
+    unfolding rowShown rowAnswer
+    row-none x e s f =
+        let l : listed symbol (symbolsOf (usedRows rows (c .rows))) ≡ false = sym (listed-found symbol (usedRows rows (c .rows))) ∙ ap isFound f in
+        rw (s, l, e)
+
+    pub row-there : (x : RowShown) (i : ℕ) (kept : Row) (figures : Figures) → safe ≡ true → rowWith symbol (usedRows rows (c .rows)) ≡ At i
+        → kept ≡ rowIn rows i → figures ≡ figuresOf symbol (usedLines lines (c .lines)) → x ≡ shownOf kept figures
+        → record { answer = answerOf 0; row = x } ≡ rowShown c rows lines symbol
+    unfolding rowShown rowAnswer
+    row-there x i kept figures s f k g e =
+        let l : listed symbol (symbolsOf (usedRows rows (c .rows))) ≡ true = sym (listed-found symbol (usedRows rows (c .rows))) ∙ ap isFound f in
+        rw (s, l, f) (ap (λ (y : RowShown). record { answer = answerOf 0; row = y }) (e ∙ ap (λ (y : Row). shownOf y figures) k ∙ ap (shownOf (rowIn rows i)) g))

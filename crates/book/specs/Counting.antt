@@ -1,0 +1,46 @@
+-- The wanted number, the phase and the counts, which move together as one value; when a book is sound.
+-- Assumes nothing.
+use Prim.Native.Nat.{ℕ, _+_, _-_, _<_}
+use mathlib.Core.Path.{_≡_}
+use mathlib.Core.Logic.{_⊎_}
+use mathlib.Core.Bool.{Bool, _&&_}
+use lib.Dec.{leb}
+use Rattle.store.specs.Lines.{lineLimit}
+use Rattle.store.specs.Rows.{rowLimit}
+use Rattle.book.specs.declared.counters.Counters.{Counters}
+
+-- a fresh book wants 1 and has no rows, lines, phase or taken messages
+abbrev pub freshCounters : Counters
+freshCounters = record { wanted = 1; phase = 0; rows = 0; lines = 0; taken = 0 }
+
+-- ---- each move
+
+-- used up: wanted number up by one, all else equal
+abbrev pub usedUp : Counters → Counters
+usedUp c = record { wanted = c .wanted + 1; phase = c .phase; rows = c .rows; lines = c .lines; taken = c .taken }
+
+abbrev pub advanced : ℕ → Counters → Counters
+advanced phase c = record { wanted = c .wanted; phase = phase; rows = c .rows; lines = c .lines; taken = c .taken }
+
+abbrev pub countedTaken : Counters → Counters
+countedTaken c = record { wanted = c .wanted; phase = c .phase; rows = c .rows; lines = c .lines; taken = c .taken + 1 }
+
+abbrev pub oneRowMore : Counters → Counters
+oneRowMore c = record { wanted = c .wanted; phase = c .phase; rows = c .rows + 1; lines = c .lines; taken = c .taken }
+
+abbrev pub oneLineMore : Counters → Counters
+oneLineMore c = record { wanted = c .wanted; phase = c .phase; rows = c .rows; lines = c .lines + 1; taken = c .taken }
+
+-- ---- soundness, for room of that many bytes for rows and for lines
+
+-- a book is unsound exactly if one of these holds: its wanted number is outside 1 to 4,294,967,296; it claims more rows,
+-- or more lines, than their limits; its phase is not one of the seven; its taken count exceeds the wanted number less one
+abbrev pub Unsound : Counters → ℕ → ℕ → Type 0
+Unsound c rows lines =
+    ((c .wanted < 1) ⊎ (4294967296 < c .wanted)) ⊎ ((rowLimit rows < c .rows) ⊎ ((lineLimit lines < c .lines) ⊎ ((6 < c .phase) ⊎ (c .wanted - 1 < c .taken))))
+
+-- the same, as a test
+unfoldable pub sound : Counters → ℕ → ℕ → Bool
+sound c rows lines =
+    leb 1 (c .wanted) && leb (c .wanted) 4294967296 && leb (c .rows) (rowLimit rows) && leb (c .lines) (lineLimit lines)
+    && leb (c .phase) 6 && leb (c .taken) (c .wanted - 1)

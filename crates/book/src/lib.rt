@@ -1,0 +1,173 @@
+// The book of one day: counters by value, rows and lines in lent bytes. No call counts on its caller for a check, and a
+// refused one leaves every lent byte as it was.
+pub mod counters;
+mod judge;
+pub mod show;
+mod take;
+
+use counters::Counters;
+use message::answer;
+use message::answer::Answer;
+use show::RowShown;
+use store::Found;
+use store::lines;
+use store::rows;
+use store::walk;
+ghost use mathlib.Core.Path.{_≡_};
+ghost use lib.ListN.{length};
+ghost use Rattle.message.specs.Answers.{answerOf};
+ghost use Rattle.book.specs.Counting.{freshCounters};
+ghost use Rattle.book.specs.Calls.{listAnswer, listSaid, listRows, deliverSaid, deliverRows, deliverLines, rowShown};
+ghost use Rattle.book.specs.Working.{numberBy};
+
+// What a listing or a message is told, and the counters after it.
+pub struct Said {
+    pub answer: Answer,
+    pub counters: Counters,
+}
+
+// What the reading of a row is told.
+pub struct Shown {
+    pub answer: Answer,
+    pub row: RowShown,
+}
+
+// A fresh book. Starting one cannot be refused and touches no lent byte.
+pub fn fresh() -> Counters
+    ensures { λ c. ⌜ c ≡ freshCounters ⌝ }
+{
+    Counters {
+        wanted: 1,
+        phase: 0,
+        rows: 0,
+        lines: 0,
+        taken: 0,
+    }
+}
+
+// 13 to 17 or `Done`.
+fn judge_listing(c: Counters, rows: &[u8], lines: &[u8], symbol: [u8; 8], close: u32) -> Answer
+    ensures { λ a. ⌜ a ≡ answerOf (listAnswer c (now (rows .entry)) (now (lines .entry)) symbol close) ⌝ }
+{
+    if c.is_sound(rows.len(), lines.len()) {
+        if octets::text::is_text(&symbol) & (close <= 2000000000) {
+            if c.wanted != 1 {
+                return Answer::ListingLate;
+            }
+            match rows::find(rows, c.rows, symbol) {
+                Found::Nothing => {
+                    if rows::limit(rows.len()) <= c.rows {
+                        Answer::RowsFull
+                    } else {
+                        Answer::Done
+                    }
+                }
+                Found::At(i) => Answer::ListedAlready,
+            }
+        } else {
+            Answer::ListingBroken
+        }
+    } else {
+        Answer::Unsound
+    }
+}
+
+// Lists a symbol with its close: a row added at the end.
+pub fn list(c: Counters, rows: &mut [u8], lines: &[u8], symbol: [u8; 8], close: u32) -> Said
+    ensures said { λ s. ⌜ s ≡ listSaid c (now (rows .entry)) (now (lines .entry)) symbol close ⌝ }
+    ensures rows { λ s. ⌜ now (rows .exit) ≡ listRows c (now (rows .entry)) (now (lines .entry)) symbol close ⌝ }
+{
+    let a = judge_listing(c, rows, lines, symbol, close);
+    if answer::number(a) != 0 {
+        return Said {
+            answer: a,
+            counters: c,
+        };
+    }
+    rows::put(rows, c.rows, symbol, close);
+    Said {
+        answer: Answer::Done,
+        counters: c.add_row(),
+    }
+}
+
+// A message that bears the wanted number: taken, or the number used up.
+fn use_number(c: Counters, rows: &mut [u8], lines: &mut [u8], message: &[u8]) -> Said
+    requires { ⌜ numberBy c (length (now rows)) (length (now lines)) (c .wanted) ≡ 0 ⌝ }
+    ensures said { λ s. ⌜ s ≡ deliverSaid c (now (rows .entry)) (now (lines .entry)) (c .wanted) (now (message .entry)) ⌝ }
+    ensures rows { λ s. ⌜ now (rows .exit) ≡ deliverRows c (now (rows .entry)) (now (lines .entry)) (c .wanted) (now (message .entry)) ⌝ }
+    ensures lines { λ s. ⌜ now (lines .exit) ≡ deliverLines c (now (rows .entry)) (now (lines .entry)) (c .wanted) (now (message .entry)) ⌝ }
+{
+    let q = message::read(message);
+    let v = judge::judge(c, rows, lines, q);
+    let a = v.answer;
+    if answer::number(a) != 0 {
+        return Said {
+            answer: a,
+            counters: c.use_up(),
+        };
+    }
+    let r = q.found;
+    take::take_lines(lines, c.lines, c.wanted as u32, r, v.line);
+    take::take_rows(rows, r, v.row);
+    Said {
+        answer: Answer::Done,
+        counters: take::take_counters(c, r),
+    }
+}
+
+// 17, 1, 2, 3, or `Done` for the wanted number.
+fn judge_number(c: Counters, rows: usize, lines: usize, number: u64) -> Answer
+    ensures { λ a. ⌜ a ≡ answerOf (numberBy c rows lines number) ⌝ }
+{
+    if c.is_sound(rows, lines) {
+        c.order(number)
+    } else {
+        Answer::Unsound
+    }
+}
+
+// Delivers a message under its number.
+pub fn deliver(c: Counters, rows: &mut [u8], lines: &mut [u8], number: u64, message: &[u8]) -> Said
+    ensures said { λ s. ⌜ s ≡ deliverSaid c (now (rows .entry)) (now (lines .entry)) number (now (message .entry)) ⌝ }
+    ensures rows { λ s. ⌜ now (rows .exit) ≡ deliverRows c (now (rows .entry)) (now (lines .entry)) number (now (message .entry)) ⌝ }
+    ensures lines { λ s. ⌜ now (lines .exit) ≡ deliverLines c (now (rows .entry)) (now (lines .entry)) number (now (message .entry)) ⌝ }
+{
+    let a = judge_number(c, rows.len(), lines.len(), number);
+    if answer::number(a) != 0 {
+        return Said {
+            answer: a,
+            counters: c,
+        };
+    }
+    use_number(c, rows, lines, message)
+}
+
+// Reads the row of a symbol.
+pub fn row(c: Counters, rows: &[u8], lines: &[u8], symbol: [u8; 8]) -> Shown
+    ensures { λ s. ⌜ s ≡ rowShown c (now (rows .entry)) (now (lines .entry)) symbol ⌝ }
+{
+    if c.is_sound(rows.len(), lines.len()) {
+        match rows::find(rows, c.rows, symbol) {
+            Found::Nothing => {
+                Shown {
+                    answer: Answer::NotListed,
+                    row: show::nothing(),
+                }
+            }
+            Found::At(i) => {
+                let kept = rows::get(rows, i);
+                let figures = walk::walk(lines, c.lines, symbol);
+                Shown {
+                    answer: Answer::Done,
+                    row: show::shown(kept, figures),
+                }
+            }
+        }
+    } else {
+        Shown {
+            answer: Answer::Unsound,
+            row: show::nothing(),
+        }
+    }
+}
