@@ -21,18 +21,18 @@ use Rattle.message.proofs.Fitting.{read-fits}
 use Rattle.store.specs.declared.lines.Line.{Line}
 use Rattle.store.specs.Lines.{lineFrom, lineLimit, lineAt, noLine, lineIn, lineWith, usedLines, withLine, withDead}
 use Rattle.store.specs.Rows.{newRow, reportBytes, summaryBytes, rowLimit, rowWith, rowIn, usedRows, inRow, withRow, withReport, withSummary}
-use Rattle.store.specs.Figures.{figuresOf}
+use Rattle.walk.specs.Figures.{figuresOf}
 use Rattle.store.specs.Changed.{LineFits}
 use Rattle.store.proofs.Slabs.{line-length, dead-length, row-length, line-touches, dead-touches, row-touches, new-row-length, report-length, summary-length}
-use Rattle.store.proofs.Meaning.{volume-fits}
+use Rattle.walk.proofs.Meaning.{volume-fits}
 use Rattle.book.specs.declared.counters.Counters.{Counters}
 use Rattle.book.specs.Counting.{usedUp, sound}
-use Rattle.book.specs.Messages.{isEvent, isTrade, isCancel, isCorrection, isSummary, namesOld, makesNew, oldKey}
-use Rattle.book.specs.Table.{Case, lowest, inBook, numberTable, contentTable, listTable, rowTable}
-use Rattle.book.specs.Taking.{madeLine, correctedLine, linesBy, rowsBy, placeOf}
+use Rattle.table.specs.Messages.{isEvent, isTrade, isCancel, isCorrection, isSummary, namesOld, makesNew, oldKey}
+use Rattle.table.specs.Table.{symbolsOf, Case, lowest, inBook, numberTable, contentTable, listTable, rowTable}
+use Rattle.table.specs.Taking.{madeLine, correctedLine, linesBy, rowsBy, placeOf}
 use Rattle.book.specs.Showing.{shownOf, nothingShown}
-use Rattle.book.specs.Calls.{symbolsOf, listAnswer, listSaid, listRows, deliverAnswer, deliverSaid, deliverRows, deliverLines, rowAnswer, rowShown}
-use Rattle.book.proofs.Tables.{Wanted, number-content, number-refused, number-taken}
+use Rattle.book.specs.Calls.{listAnswer, listSaid, listRows, deliverAnswer, deliverSaid, deliverRows, deliverLines, rowAnswer, rowShown}
+use Rattle.table.proofs.Tables.{Wanted, number-content, number-refused, number-taken}
 use Rattle.book.proofs.Sound.{sound-gives}
 
 -- ---- one of a list

@@ -1,6 +1,4 @@
-pub mod Laws
 pub mod Signed
 pub mod Sound
-pub mod Tables
 pub mod Demand1
 pub mod Steps

@@ -16,24 +16,25 @@ use Rattle.message.specs.declared.Reading.{Reading}
 use Rattle.message.specs.Reading.{readOf}
 use Rattle.store.specs.declared.Found.the-variants.{Nothing, At}
 use Rattle.store.specs.declared.rows.Row.{Row}
-use Rattle.store.specs.declared.walk.Figures.{Figures}
+use Rattle.walk.specs.declared.Figures.{Figures}
 use Rattle.store.specs.Lines.{usedLines, lineLimit, lineWith}
 use Rattle.store.specs.Rows.{usedRows, rowLimit, rowWith, rowIn, withRow}
-use Rattle.store.specs.Figures.{figuresOf}
+use Rattle.walk.specs.Figures.{figuresOf}
 use Rattle.book.specs.declared.counters.Counters.{Counters}
 use Rattle.book.specs.declared.Said.{Said}
+use Rattle.book.specs.declared.Placed.{Placed}
 use Rattle.book.specs.declared.Shown.{Shown}
 use Rattle.book.specs.declared.show.RowShown.{RowShown}
-use Rattle.book.specs.declared.judge.Verdict.{Verdict}
-use Rattle.book.specs.Counting.{usedUp, oneRowMore, sound}
-use Rattle.book.specs.Messages.{isEvent, isTrade, isCancel, isCorrection, namesOld, oldKey}
-use Rattle.book.specs.Table.{Case, inBook, isFound, listed, listTable, contentTable, numberTable}
-use Rattle.book.specs.Taking.{linesBy, rowsBy, takenBy, placeOf}
+use Rattle.table.specs.declared.judge.Verdict.{Verdict}
+use Rattle.book.specs.Counting.{usedUp, oneRowMore, takenBy, sound}
+use Rattle.table.specs.Messages.{isEvent, isTrade, isCancel, isCorrection, namesOld, oldKey}
+use Rattle.table.specs.Table.{Case, symbolsOf, inBook, isFound, listed, listTable, contentTable, numberTable}
+use Rattle.table.specs.Taking.{linesBy, rowsBy, placeOf}
 use Rattle.book.specs.Showing.{shownOf, nothingShown}
-use Rattle.book.specs.Calls.{symbolsOf, listAnswer, listSaid, listRows, deliverAnswer, deliverSaid, deliverRows, deliverLines, rowAnswer, rowShown}
-use Rattle.book.specs.Working.{judgedBy, numberBy}
+use Rattle.book.specs.Calls.{numberAnswer, placed, listAnswer, listSaid, listRows, deliverAnswer, deliverSaid, deliverRows, deliverLines, rowAnswer, rowShown}
+use Rattle.table.specs.Working.{judgedBy}
 use Rattle.book.proofs.Sound.{sound-gives}
-use Rattle.book.proofs.Tables.{listed-found, rows-full, judged-is, judged-row, judged-line, read-plain, Wanted, number-wanted, number-content, number-refused}
+use Rattle.table.proofs.Tables.{listed-found, rows-full, judged-is, judged-row, judged-line, read-plain, Wanted, number-wanted, number-content, number-refused}
 use Rattle.book.proofs.Demand1.{answers-listed, refused-keeps}
 
 said-is : (s : Said) (a : Answer) (k : Counters) → a ≡ s .answer → k ≡ s .counters → record { answer = a; counters = k } ≡ s
@@ -60,6 +61,9 @@ broken-is false x y t e = ap not e
 sound-there : (b : Bool) (cases : List Case) → inBook b cases ≡ 0 → b ≡ true
 sound-there true cases e = refl
 sound-there false cases e = absurd (omega arith)
+
+shown-is : (s : Shown) (a : Answer) (x : RowShown) → a ≡ s .answer → x ≡ s .row → record { answer = a; row = x } ≡ s
+shown-is s a x e f = rw (e, f)
 
 module _ (c : Counters) (rows lines : List ℕ) where
   abbrev safe : Bool
@@ -222,20 +226,20 @@ module _ (c : Counters) (rows lines : List ℕ) where
 
   -- ---- a message under any number
 
-  module _ (n : ℕ) (m : List ℕ) (a : Answer) (e : a ≡ answerOf (numberBy c (length rows) (length lines) n)) where
+  module _ (n : ℕ) (m : List ℕ) (a : Answer) (e : a ≡ answerOf (numberAnswer c rows lines n)) where
     abbrev early : ℕ
-    early = numberBy c (length rows) (length lines) n
+    early = numberAnswer c rows lines n
 
     early-wanted : early ≡ 0 → Wanted safe (c .wanted) n
-    unfolding numberBy
+    unfolding numberAnswer
     early-wanted z = number-wanted safe (c .wanted) n .0 z
 
     wanted-early : Wanted safe (c .wanted) n → early ≡ 0
-    unfolding numberBy
+    unfolding numberAnswer
     wanted-early w = number-wanted safe (c .wanted) n .1 w
 
     early-answer : (Wanted safe (c .wanted) n → ⊥) → deliverAnswer c rows lines n m ≡ early
-    unfolding numberBy deliverAnswer
+    unfolding numberAnswer deliverAnswer
     early-answer h = number-refused safe (c .wanted) n _ h
 
     early-number : (early ≡ 0 → ⊥) → numberOf a ≡ early
@@ -252,9 +256,9 @@ module _ (c : Counters) (rows lines : List ℕ) where
         go false t = let h = eqb-false early 0 t in absurd (h (sym (early-number h) ∙ z))
 
     -- so the call that uses the number up may be made, and what it promises is the whole call's
-    pub wanted-number : numberOf a ≡ 0 → numberBy c (length rows) (length lines) (c .wanted) ≡ 0
-    unfolding numberBy
-    wanted-number z = let w = wanted-is z in ap (λ (k : ℕ). numberBy c (length rows) (length lines) k) (sym (w .wanted)) ∙ wanted-early w
+    pub wanted-number : numberOf a ≡ 0 → numberAnswer c rows lines (c .wanted) ≡ 0
+    unfolding numberAnswer
+    wanted-number z = let w = wanted-is z in ap (λ (k : ℕ). numberAnswer c rows lines k) (sym (w .wanted)) ∙ wanted-early w
 
     pub wanted-said : numberOf a ≡ 0 → (s : Said) (r l : List ℕ)
         → (s ≡ deliverSaid c rows lines (c .wanted) m) × ((r ≡ deliverRows c rows lines (c .wanted) m) × (l ≡ deliverLines c rows lines (c .wanted) m))
@@ -271,24 +275,51 @@ module _ (c : Counters) (rows lines : List ℕ) where
         let g = early-answer (λ w. h (wanted-early w)) in
         (said-is (deliverSaid c rows lines n m) a c (e ∙ ap answerOf (sym g)) (sym (u .1)), (sym (k .0), sym (k .1)))
 
-  -- ---- a row read
+  -- ---- a row found
 
   module _ (symbol : List ℕ) where
-    pub row-unsound : (x : RowShown) → x ≡ nothingShown → safe ≡ false → record { answer = answerOf 17; row = x } ≡ rowShown c rows lines symbol
-    unfolding rowShown rowAnswer
-    row-unsound x e s = rw (s, e)
+    abbrev listedRows : List Row
+    listedRows = usedRows rows (c .rows)
 
-    pub row-none : (x : RowShown) → x ≡ nothingShown → safe ≡ true → rowWith symbol (usedRows rows (c .rows)) ≡ Nothing
-        → record { answer = answerOf 7; row = x } ≡ rowShown c rows lines symbol
-    unfolding rowShown rowAnswer
-    row-none x e s f =
-        let l : listed symbol (symbolsOf (usedRows rows (c .rows))) ≡ false = sym (listed-found symbol (usedRows rows (c .rows))) ∙ ap isFound f in
-        rw (s, l, e)
+    pub place-unsound : safe ≡ false → record { answer = answerOf 17; row = 0 } ≡ placed c rows lines symbol
+    unfolding placed rowAnswer
+    place-unsound s = rw s
 
-    pub row-there : (x : RowShown) (i : ℕ) (kept : Row) (figures : Figures) → safe ≡ true → rowWith symbol (usedRows rows (c .rows)) ≡ At i
-        → kept ≡ rowIn rows i → figures ≡ figuresOf symbol (usedLines lines (c .lines)) → x ≡ shownOf kept figures
-        → record { answer = answerOf 0; row = x } ≡ rowShown c rows lines symbol
-    unfolding rowShown rowAnswer
-    row-there x i kept figures s f k g e =
-        let l : listed symbol (symbolsOf (usedRows rows (c .rows))) ≡ true = sym (listed-found symbol (usedRows rows (c .rows))) ∙ ap isFound f in
-        rw (s, l, f) (ap (λ (y : RowShown). record { answer = answerOf 0; row = y }) (e ∙ ap (λ (y : Row). shownOf y figures) k ∙ ap (shownOf (rowIn rows i)) g))
+    pub place-none : safe ≡ true → rowWith symbol listedRows ≡ Nothing → record { answer = answerOf 7; row = 0 } ≡ placed c rows lines symbol
+    unfolding placed rowAnswer
+    place-none s f =
+        let l : listed symbol (symbolsOf listedRows) ≡ false = sym (listed-found symbol listedRows) ∙ ap isFound f in
+        rw (s, l)
+
+    pub place-there : (i : ℕ) → safe ≡ true → rowWith symbol listedRows ≡ At i → record { answer = answerOf 0; row = i } ≡ placed c rows lines symbol
+    unfolding placed rowAnswer
+    place-there i s f =
+        let l : listed symbol (symbolsOf listedRows) ≡ true = sym (listed-found symbol listedRows) ∙ ap isFound f in
+        rw (s, l, f)
+
+    -- ---- a row read
+
+    module _ (p : Placed) (e : p ≡ placed c rows lines symbol) where
+      row-number : numberOf (p .answer) ≡ rowAnswer c rows lines symbol
+      unfolding placed rowShown
+      row-number = ap (λ (x : Placed). numberOf (x .answer)) e ∙ answers-listed c rows lines .row symbol .1
+
+      placed-row : rowAnswer c rows lines symbol ≡ 0 → placed c rows lines symbol .row ≡ placeOf (rowWith symbol listedRows)
+      unfolding placed
+      placed-row n = rw n
+
+      pub row-refused : (numberOf (p .answer) ≡ 0 → ⊥) → (x : RowShown) → x ≡ nothingShown
+          → record { answer = p .answer; row = x } ≡ rowShown c rows lines symbol
+      unfolding placed rowShown
+      row-refused z x f =
+          shown-is (rowShown c rows lines symbol) (p .answer) x (ap (λ (y : Placed). y .answer) e)
+          (f ∙ sym (refused-keeps c rows lines .row symbol (λ q. z (row-number ∙ q))))
+
+      pub row-there : numberOf (p .answer) ≡ 0 → (x : RowShown) (kept : Row) (figures : Figures)
+          → kept ≡ rowIn rows (p .row) → figures ≡ figuresOf symbol (usedLines lines (c .lines)) → x ≡ shownOf kept figures
+          → record { answer = answerOf 0; row = x } ≡ rowShown c rows lines symbol
+      unfolding rowShown
+      row-there z x kept figures k g f =
+          let n : rowAnswer c rows lines symbol ≡ 0 = sym row-number ∙ z in
+          let i : p .row ≡ placeOf (rowWith symbol listedRows) = ap (λ (y : Placed). y .row) e ∙ placed-row n in
+          rw n (ap (λ (y : RowShown). record { answer = answerOf 0; row = y }) (f ∙ ap (λ (y : Row). shownOf y figures) (k ∙ ap (rowIn rows) i) ∙ ap (shownOf (rowIn rows (placeOf (rowWith symbol listedRows)))) g))

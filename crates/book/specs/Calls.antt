@@ -1,29 +1,25 @@
 -- The promise of each call, for every counters, lent bytes, number, message and symbol.
 -- Assumes nothing.
 use Prim.Native.Nat.{ℕ}
-use mathlib.Core.List.{List, map, _++_}
+use mathlib.Core.List.{List, _++_}
 use mathlib.Core.Bool.{Bool, cond, _&&_}
 use lib.Dec.{eqb, leb}
 use lib.ListN.{length}
 use Rattle.message.specs.Answers.{answerOf}
 use Rattle.message.specs.Reading.{readOf}
 use Rattle.message.specs.declared.Reading.{Reading}
-use Rattle.store.specs.declared.rows.Row.{Row}
 use Rattle.store.specs.Lines.{usedLines, lineLimit, lineWith}
 use Rattle.store.specs.Rows.{usedRows, rowLimit, rowWith, rowIn, withRow}
-use Rattle.store.specs.Figures.{figuresOf}
+use Rattle.walk.specs.Figures.{figuresOf}
 use Rattle.book.specs.declared.counters.Counters.{Counters}
 use Rattle.book.specs.declared.Said.{Said}
+use Rattle.book.specs.declared.Placed.{Placed}
 use Rattle.book.specs.declared.Shown.{Shown}
-use Rattle.book.specs.Counting.{usedUp, oneRowMore, sound}
-use Rattle.book.specs.Messages.{oldKey}
-use Rattle.book.specs.Table.{inBook, numberTable, contentTable, listTable, rowTable}
-use Rattle.book.specs.Taking.{linesBy, rowsBy, takenBy, placeOf}
+use Rattle.book.specs.Counting.{usedUp, oneRowMore, takenBy, sound}
+use Rattle.table.specs.Messages.{oldKey}
+use Rattle.table.specs.Table.{symbolsOf, inBook, numberTable, contentTable, listTable, rowTable}
+use Rattle.table.specs.Taking.{linesBy, rowsBy, placeOf}
 use Rattle.book.specs.Showing.{shownOf, nothingShown}
-
--- the listed symbols, in the order listed
-abbrev pub symbolsOf : List Row → List (List ℕ)
-symbolsOf rs = map (λ (r : Row). r .symbol) rs
 
 abbrev pub said : ℕ → Counters → Said
 said n c = record { answer = answerOf n; counters = c }
@@ -43,6 +39,10 @@ module _ (c : Counters) (rows lines : List ℕ) where
   listRows symbol close = cond (eqb (listAnswer symbol close) 0) (withRow rows (c .rows) symbol close) rows
 
   -- ---- delivering
+
+  -- 17, 1, 2, 3, or 0 for the wanted number
+  unfoldable pub numberAnswer : ℕ → ℕ
+  numberAnswer n = inBook (sound c (length rows) (length lines)) (numberTable (c .wanted) n)
 
   unfoldable pub deliverAnswer : ℕ → List ℕ → ℕ
   deliverAnswer n m =
@@ -73,6 +73,11 @@ module _ (c : Counters) (rows lines : List ℕ) where
 
   unfoldable pub rowAnswer : List ℕ → ℕ
   rowAnswer symbol = inBook (sound c (length rows) (length lines)) (rowTable (symbolsOf (usedRows rows (c .rows))) symbol)
+
+  -- where the row is, 0 where there is none
+  unfoldable pub placed : List ℕ → Placed
+  placed symbol =
+      record { answer = answerOf (rowAnswer symbol); row = cond (eqb (rowAnswer symbol) 0) (placeOf (rowWith symbol (usedRows rows (c .rows)))) 0 }
 
   unfoldable pub rowShown : List ℕ → Shown
   rowShown symbol =

@@ -3,8 +3,10 @@
 use Prim.Native.Nat.{ℕ, _+_, _-_, _<_}
 use mathlib.Core.Path.{_≡_}
 use mathlib.Core.Logic.{_⊎_}
-use mathlib.Core.Bool.{Bool, _&&_}
+use mathlib.Core.Bool.{Bool, cond, _&&_}
 use lib.Dec.{leb}
+use Rattle.message.specs.declared.Record.{Record}
+use Rattle.table.specs.Messages.{isEvent, makesNew, phaseOf}
 use Rattle.store.specs.Lines.{lineLimit}
 use Rattle.store.specs.Rows.{rowLimit}
 use Rattle.book.specs.declared.counters.Counters.{Counters}
@@ -30,6 +32,12 @@ oneRowMore c = record { wanted = c .wanted; phase = c .phase; rows = c .rows + 1
 
 abbrev pub oneLineMore : Counters → Counters
 oneLineMore c = record { wanted = c .wanted; phase = c .phase; rows = c .rows; lines = c .lines + 1; taken = c .taken }
+
+-- a message taken: its number used up and it counted; an event is the new phase, and T and C use a line
+unfoldable pub takenBy : Record → Counters → Counters
+takenBy r c =
+    let up = countedTaken (usedUp c) in
+    cond (isEvent r) (advanced (phaseOf (r .event)) up) (cond (makesNew r) (oneLineMore up) up)
 
 -- ---- soundness, for room of that many bytes for rows and for lines
 

@@ -9,11 +9,11 @@ use Rattle.store.specs.declared.rows.Row.{Row}
 use Rattle.store.specs.declared.rows.Summary.{Summary}
 use Rattle.store.specs.declared.rows.Summary.the-variants.{NoSummary, HighLow}
 use Rattle.store.specs.declared.rows.Reported.the-variants.{NotSet}
-use Rattle.store.specs.declared.walk.Price.{Price}
-use Rattle.store.specs.declared.walk.Price.the-variants.{Absent, Of}
-use Rattle.store.specs.declared.walk.Last.{Last}
-use Rattle.store.specs.declared.walk.Last.the-variants.{NoLast, Sale}
-use Rattle.store.specs.declared.walk.Figures.{Figures}
+use Rattle.walk.specs.declared.Price.{Price}
+use Rattle.walk.specs.declared.Price.the-variants.{Absent, Of}
+use Rattle.walk.specs.declared.Last.{Last}
+use Rattle.walk.specs.declared.Last.the-variants.{NoLast, Sale}
+use Rattle.walk.specs.declared.Figures.{Figures}
 use Rattle.book.specs.declared.show.Net.{Net}
 use Rattle.book.specs.declared.show.Net.the-variants.{NoNet, Amount}
 use Rattle.book.specs.declared.show.RowShown.{RowShown}

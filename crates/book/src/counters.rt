@@ -1,12 +1,14 @@
 // The counters' moves, each returning the new value.
+use message::Record;
 use message::answer::Answer;
 use store::lines;
 use store::rows;
+use table::judge::phase_of;
 ghost use mathlib.Core.Path.{_≡_};
 ghost use Prim.Native.Nat.{_+_, _<_, _^_};
 ghost use Rattle.message.specs.Answers.{answerOf};
-ghost use Rattle.book.specs.Counting.{freshCounters, usedUp, advanced, countedTaken, oneRowMore, oneLineMore, sound};
-ghost use Rattle.book.specs.Table.{lowest, numberTable};
+ghost use Rattle.book.specs.Counting.{freshCounters, usedUp, advanced, countedTaken, oneRowMore, oneLineMore, takenBy, sound};
+ghost use Rattle.table.specs.Table.{lowest, numberTable};
 
 // What moves together: the wanted number, the phase and the counts. The phase is 0 before any event was taken, then
 // 1 to 6 for O S Q M E C.
@@ -60,6 +62,21 @@ impl Counters {
     {
         self.lines += 1;
         self
+    }
+
+    // A message taken: its number used up and it counted; an event is the new phase, and T and C use a line.
+    pub(crate) fn take(self, r: Record) -> Counters
+        requires { ⌜ (self .wanted + 1 < 2 ^ 64) × (self .taken + 1 < 2 ^ 64) × (self .lines + 1 < 2 ^ 64) ⌝ }
+        ensures { λ o. ⌜ o ≡ takenBy r self ⌝ }
+    {
+        let up = self.use_up().count_taken();
+        if r.letter == b'S' {
+            return up.advance(phase_of(r.event));
+        }
+        if (r.letter == b'T') | (r.letter == b'C') {
+            return up.add_line();
+        }
+        up
     }
 
     // Whether the counters are sound for rooms of that many bytes.

@@ -1,24 +1,22 @@
 // The book of one day: counters by value, rows and lines in lent bytes. No call counts on its caller for a check, and a
 // refused one leaves every lent byte as it was.
 pub mod counters;
-mod judge;
 pub mod show;
-mod take;
 
 use counters::Counters;
 use message::answer;
 use message::answer::Answer;
 use show::RowShown;
 use store::Found;
-use store::lines;
 use store::rows;
-use store::walk;
+use table::judge::judge;
+use table::take::take_lines;
+use table::take::take_rows;
 ghost use mathlib.Core.Path.{_≡_};
 ghost use lib.ListN.{length};
 ghost use Rattle.message.specs.Answers.{answerOf};
 ghost use Rattle.book.specs.Counting.{freshCounters};
-ghost use Rattle.book.specs.Calls.{listAnswer, listSaid, listRows, deliverSaid, deliverRows, deliverLines, rowShown};
-ghost use Rattle.book.specs.Working.{numberBy};
+ghost use Rattle.book.specs.Calls.{numberAnswer, listAnswer, listSaid, listRows, deliverSaid, deliverRows, deliverLines, placed, rowShown};
 
 // What a listing or a message is told, and the counters after it.
 pub struct Said {
@@ -30,6 +28,12 @@ pub struct Said {
 pub struct Shown {
     pub answer: Answer,
     pub row: RowShown,
+}
+
+// Where a row is, if it is listed.
+struct Placed {
+    answer: Answer,
+    row: usize,
 }
 
 // A fresh book. Starting one cannot be refused and touches no lent byte.
@@ -93,13 +97,13 @@ pub fn list(c: Counters, rows: &mut [u8], lines: &[u8], symbol: [u8; 8], close: 
 
 // A message that bears the wanted number: taken, or the number used up.
 fn use_number(c: Counters, rows: &mut [u8], lines: &mut [u8], message: &[u8]) -> Said
-    requires { ⌜ numberBy c (length (now rows)) (length (now lines)) (c .wanted) ≡ 0 ⌝ }
+    requires { ⌜ numberAnswer c (now rows) (now lines) (c .wanted) ≡ 0 ⌝ }
     ensures said { λ s. ⌜ s ≡ deliverSaid c (now (rows .entry)) (now (lines .entry)) (c .wanted) (now (message .entry)) ⌝ }
     ensures rows { λ s. ⌜ now (rows .exit) ≡ deliverRows c (now (rows .entry)) (now (lines .entry)) (c .wanted) (now (message .entry)) ⌝ }
     ensures lines { λ s. ⌜ now (lines .exit) ≡ deliverLines c (now (rows .entry)) (now (lines .entry)) (c .wanted) (now (message .entry)) ⌝ }
 {
     let q = message::read(message);
-    let v = judge::judge(c, rows, lines, q);
+    let v = judge(c.phase, rows, c.rows, lines, c.lines, q);
     let a = v.answer;
     if answer::number(a) != 0 {
         return Said {
@@ -108,19 +112,19 @@ fn use_number(c: Counters, rows: &mut [u8], lines: &mut [u8], message: &[u8]) ->
         };
     }
     let r = q.found;
-    take::take_lines(lines, c.lines, c.wanted as u32, r, v.line);
-    take::take_rows(rows, r, v.row);
+    take_lines(lines, c.lines, c.wanted as u32, r, v.line);
+    take_rows(rows, r, v.row);
     Said {
         answer: Answer::Done,
-        counters: take::take_counters(c, r),
+        counters: c.take(r),
     }
 }
 
 // 17, 1, 2, 3, or `Done` for the wanted number.
-fn judge_number(c: Counters, rows: usize, lines: usize, number: u64) -> Answer
-    ensures { λ a. ⌜ a ≡ answerOf (numberBy c rows lines number) ⌝ }
+fn judge_number(c: Counters, rows: &[u8], lines: &[u8], number: u64) -> Answer
+    ensures { λ a. ⌜ a ≡ answerOf (numberAnswer c (now (rows .entry)) (now (lines .entry)) number) ⌝ }
 {
-    if c.is_sound(rows, lines) {
+    if c.is_sound(rows.len(), lines.len()) {
         c.order(number)
     } else {
         Answer::Unsound
@@ -133,7 +137,7 @@ pub fn deliver(c: Counters, rows: &mut [u8], lines: &mut [u8], number: u64, mess
     ensures rows { λ s. ⌜ now (rows .exit) ≡ deliverRows c (now (rows .entry)) (now (lines .entry)) number (now (message .entry)) ⌝ }
     ensures lines { λ s. ⌜ now (lines .exit) ≡ deliverLines c (now (rows .entry)) (now (lines .entry)) number (now (message .entry)) ⌝ }
 {
-    let a = judge_number(c, rows.len(), lines.len(), number);
+    let a = judge_number(c, rows, lines, number);
     if answer::number(a) != 0 {
         return Said {
             answer: a,
@@ -143,31 +147,49 @@ pub fn deliver(c: Counters, rows: &mut [u8], lines: &mut [u8], number: u64, mess
     use_number(c, rows, lines, message)
 }
 
-// Reads the row of a symbol.
-pub fn row(c: Counters, rows: &[u8], lines: &[u8], symbol: [u8; 8]) -> Shown
-    ensures { λ s. ⌜ s ≡ rowShown c (now (rows .entry)) (now (lines .entry)) symbol ⌝ }
+// 17, 7, or the place of the row of a symbol.
+fn find_row(c: Counters, rows: &[u8], lines: &[u8], symbol: [u8; 8]) -> Placed
+    ensures { λ p. ⌜ p ≡ placed c (now (rows .entry)) (now (lines .entry)) symbol ⌝ }
 {
     if c.is_sound(rows.len(), lines.len()) {
         match rows::find(rows, c.rows, symbol) {
             Found::Nothing => {
-                Shown {
+                Placed {
                     answer: Answer::NotListed,
-                    row: show::nothing(),
+                    row: 0,
                 }
             }
             Found::At(i) => {
-                let kept = rows::get(rows, i);
-                let figures = walk::walk(lines, c.lines, symbol);
-                Shown {
+                Placed {
                     answer: Answer::Done,
-                    row: show::shown(kept, figures),
+                    row: i,
                 }
             }
         }
     } else {
-        Shown {
+        Placed {
             answer: Answer::Unsound,
-            row: show::nothing(),
+            row: 0,
         }
+    }
+}
+
+// Reads the row of a symbol.
+pub fn row(c: Counters, rows: &[u8], lines: &[u8], symbol: [u8; 8]) -> Shown
+    ensures { λ s. ⌜ s ≡ rowShown c (now (rows .entry)) (now (lines .entry)) symbol ⌝ }
+{
+    let p = find_row(c, rows, lines, symbol);
+    let a = p.answer;
+    if answer::number(a) != 0 {
+        return Shown {
+            answer: a,
+            row: show::nothing(),
+        };
+    }
+    let kept = rows::get(rows, p.row);
+    let figures = walk::walk(lines, c.lines, symbol);
+    Shown {
+        answer: Answer::Done,
+        row: show::shown(kept, figures),
     }
 }

@@ -2,9 +2,9 @@
 use store::rows::Reported;
 use store::rows::Row;
 use store::rows::Summary;
-use store::walk::Figures;
-use store::walk::Last;
-use store::walk::Price;
+use walk::Figures;
+use walk::Last;
+use walk::Price;
 ghost use mathlib.Core.Path.{_≡_};
 ghost use Rattle.book.specs.Showing as Showing;
 

@@ -1,5 +1,5 @@
--- Laws that the functions of this crate stand on: the turns of the loops, what is inside a limit, cells stored field by
--- field, and one line more in a walk.
+-- Laws that the functions of this crate stand on: the turns of the searches, what is inside a limit, cells stored field
+-- by field.
 -- Assumes nothing.
 use mathlib.Core.Path.{_≡_, refl, ap, sym, _∙_}
 use mathlib.Core.Bool.{Bool, true, false, cond, _&&_, and-false}
@@ -15,14 +15,10 @@ use lib.Seq.{sets}
 use Rattle.octets.specs.Run.{tab, part, same}
 use Rattle.octets.specs.Number.{be, digits}
 use Rattle.octets.proofs.Laws.{tab-step, tab-end, digits-length, sets-then}
-use Rattle.sheet.specs.declared.Marks.{Marks}
-use Rattle.sheet.specs.Sheet.{conditionMarks}
 use Rattle.store.specs.Search.{first}
-use Rattle.store.specs.Lines.{lineFrom, lineBytes, mark}
+use Rattle.store.specs.Lines.{lineBytes, mark}
 use Rattle.store.specs.Rows.{newRow, reportBytes, summaryBytes}
-use Rattle.store.specs.Figures.{counts, dealt, sold, tally, fold}
 use Rattle.store.specs.declared.lines.Line.{Line}
-use Rattle.store.specs.declared.walk.Figures.{Figures}
 use Rattle.store.specs.declared.Found.{Found}
 use Rattle.store.specs.declared.Found.the-variants.{Nothing, At}
 
@@ -99,37 +95,3 @@ unfolding summaryBytes
 summary-stored m at h l =
     sets-then (digits 4 h) (digits 4 l) (set m (at + 12) 1) (at + 13) (at + 17) (omega (arith, digits-length 4 h))
     ∙ sets-then (1 ∷ []) (digits 4 h ++ digits 4 l) m (at + 12) (at + 13) (omega arith)
-
--- ---- the walk
-
-module _ (m symbol : List ℕ) (t : Figures) (at : ℕ) where
-  pub tally-dead : (getD m (at + 39) 0 ≡ 1 → ⊥) → tally symbol t (lineFrom m at) ≡ t
-  unfolding tally counts lineFrom
-  tally-dead h = rw (ne-eqb (getD m (at + 39) 0) 1 h)
-
-  pub tally-other : same (part m (at + 11) 8) symbol ≡ false → tally symbol t (lineFrom m at) ≡ t
-  unfolding tally counts lineFrom
-  tally-other h = rw (h, and-false)
-
-  pub tally-live : getD m (at + 39) 0 ≡ 1 → same (part m (at + 11) 8) symbol ≡ true
-      → tally symbol t (lineFrom m at) ≡ dealt t (lineFrom m at)
-  unfolding tally counts lineFrom
-  tally-live h s = rw (eq-eqb (getD m (at + 39) 0) 1 h, s)
-
-pub fold-step : {A : Type 0} (f : A → Line → A) (a : A) (g : ℕ → Line) (i n : ℕ) → i < n
-    → fold f a (tab g i (n - i)) ≡ fold f (f a (g i)) (tab g (i + 1) (n - (i + 1)))
-unfolding fold
-fold-step f a g i n h = rw (tab-step g i n h)
-
-pub fold-end : {A : Type 0} (f : A → Line → A) (a : A) (g : ℕ → Line) (i n : ℕ) → n ≤ i → fold f a (tab g i (n - i)) ≡ a
-unfolding fold
-fold-end f a g i n h = rw (tab-end g i n h)
-
--- a line that counts, from what was read of it
-pub tally-done : (m symbol : List ℕ) (t r : Figures) (at : ℕ) (condition : List ℕ) (price size place : ℕ) (marks : Marks)
-    → getD m (at + 39) 0 ≡ 1 → same (part m (at + 11) 8) symbol ≡ true
-    → condition ≡ part m (at + 27) 4 → price ≡ be (part m (at + 19) 4) → size ≡ be (part m (at + 23) 4) → place ≡ be (part m (at + 31) 4)
-    → marks ≡ conditionMarks condition → r ≡ sold t price size place marks → r ≡ tally symbol t (lineFrom m at)
-unfolding lineFrom
-tally-done m symbol t r at condition price size place marks h s ec ep ez ew em e =
-    rw (e, em, ec, ep, ez, ew) (sym (tally-live m symbol t at h s))

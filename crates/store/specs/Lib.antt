@@ -2,5 +2,3 @@ pub mod Search
 pub mod Lines
 pub mod Rows
 pub mod Changed
-pub mod Figures
-pub mod Meaning

@@ -2,7 +2,6 @@
 // hold, at most its cap; bytes past the last whole cell are never touched. Whatever stands in a cell is read as it stands.
 pub mod lines;
 pub mod rows;
-pub mod walk;
 
 ghost use mathlib.Core.Path.{_≡_};
 ghost use Prim.Native.Nat.{min};
@@ -13,7 +12,8 @@ pub enum Found {
     At(usize),
 }
 
-fn lesser(a: usize, b: usize) -> usize
+// The lesser of two counts.
+pub fn lesser(a: usize, b: usize) -> usize
     ensures { λ r. ⌜ r ≡ min a b ⌝ }
 {
     if a < b { a } else { b }

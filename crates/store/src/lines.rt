@@ -23,21 +23,21 @@ pub struct Line {
 const CAP: usize = 65536;
 
 // The cell, and where each field stands in it; the key stands first.
-pub(crate) const CELL: usize = 40;
+pub const CELL: usize = 40;
 
-pub(crate) const SYMBOL: usize = 11;
+pub const SYMBOL: usize = 11;
 
-pub(crate) const PRICE: usize = 19;
+pub const PRICE: usize = 19;
 
-pub(crate) const SIZE: usize = 23;
+pub const SIZE: usize = 23;
 
-pub(crate) const CONDITION: usize = 27;
+pub const CONDITION: usize = 27;
 
-pub(crate) const PLACE: usize = 31;
+pub const PLACE: usize = 31;
 
 const TIME: usize = 35;
 
-pub(crate) const LIVE: usize = 39;
+pub const LIVE: usize = 39;
 
 // How many lines a room of that many bytes holds.
 pub fn limit(room: usize) -> usize

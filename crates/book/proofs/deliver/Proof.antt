@@ -13,20 +13,26 @@ judge-number-requires c κs = search needs
 number-requires : tie.Need-number-requires
 number-requires c κs = search needs
 
-returns : tie.Need-returns
-returns c = early-said (c .before .before .before .before .before .before .args .c) (c .before .before .before .before .before .before .args .rows .now) (c .before .before .before .before .before .before .args .lines .now) (c .before .before .before .before .before .before .args .number) (c .before .before .before .before .before .before .args .message .now) _ (c .before .before .judge-number .ensures) (λ e. c .if1 .taken (c .before .number .ensures ∙ e))
-
-use-number-requires : tie.Need-use-number-requires
-use-number-requires c κs = wanted-number (c .before .before .before .before .before .before .before .before .args .c) (c .before .before .before .before .before .before .before .before .args .rows .now) (c .before .before .before .before .before .before .before .before .args .lines .now) (c .before .before .before .before .before .before .before .before .args .number) (c .before .before .before .before .before .before .before .before .args .message .now) _ (c .before .before .before .before .judge-number .ensures) (sym (c .before .before .before .number .ensures) ∙ c .before .before .if1 .left)
-
 same-length : tie.Need-same-length
 same-length c = search needs
 
 same-length-2 : tie.Need-same-length-2
 same-length-2 c = search needs
 
+returns : tie.Need-returns
+returns c = early-said (c .before .before .before .before .before .before .before .before .args .c) (c .before .before .before .before .before .before .before .before .args .rows .now) (c .before .before .before .before .before .before .before .before .args .lines .now) (c .before .before .before .before .before .before .before .before .args .number) (c .before .before .before .before .before .before .before .before .args .message .now) _ (c .before .before .judge-number .ensures) (λ e. c .if1 .taken (c .before .number .ensures ∙ e))
+
+use-number-requires : tie.Need-use-number-requires
+use-number-requires c κs = wanted-number (c .before .before .before .before .before .before .before .before .before .before .args .c) (c .before .before .before .before .before .before .before .before .before .before .args .rows .now) (c .before .before .before .before .before .before .before .before .before .before .args .lines .now) (c .before .before .before .before .before .before .before .before .before .before .args .number) (c .before .before .before .before .before .before .before .before .before .before .args .message .now) _ (c .before .before .before .before .judge-number .ensures) (sym (c .before .before .before .number .ensures) ∙ c .before .before .if1 .left)
+
+same-length-3 : tie.Need-same-length-3
+same-length-3 c = search needs
+
+same-length-4 : tie.Need-same-length-4
+same-length-4 c = search needs
+
 returns-2 : tie.Need-returns-2
-returns-2 c = wanted-said (c .before .before .before .before .before .before .before .before .before .before .before .before .before .args .c) (c .before .before .before .before .before .before .before .before .before .before .before .before .before .args .rows .now) (c .before .before .before .before .before .before .before .before .before .before .before .before .before .args .lines .now) (c .before .before .before .before .before .before .before .before .before .before .before .before .before .args .number) (c .before .before .before .before .before .before .before .before .before .before .before .before .before .args .message .now) _ (c .before .before .before .before .before .before .before .before .before .judge-number .ensures) (sym (c .before .before .before .before .before .before .before .before .number .ensures) ∙ c .before .before .before .before .before .before .before .if1 .left) _ _ _ (c .before .before .before .before .use-number .ensures)
+returns-2 c = wanted-said (c .before .before .before .before .before .before .before .before .before .before .before .before .before .before .before .args .c) (c .before .before .before .before .before .before .before .before .before .before .before .before .before .before .before .args .rows .now) (c .before .before .before .before .before .before .before .before .before .before .before .before .before .before .before .args .lines .now) (c .before .before .before .before .before .before .before .before .before .before .before .before .before .before .before .args .number) (c .before .before .before .before .before .before .before .before .before .before .before .before .before .before .before .args .message .now) _ (c .before .before .before .before .before .before .before .before .before .judge-number .ensures) (sym (c .before .before .before .before .before .before .before .before .number .ensures) ∙ c .before .before .before .before .before .before .before .if1 .left) _ _ _ (c .before .before .before .before .use-number .ensures)
 
 pub deliver-spec : {M : Type 1} → statement M
 deliver-spec =
@@ -34,8 +40,10 @@ deliver-spec =
     (tie.spec
     judge-number-requires
     number-requires
-    returns
-    use-number-requires
     same-length
     same-length-2
+    returns
+    use-number-requires
+    same-length-3
+    same-length-4
     returns-2)

@@ -1,7 +1,7 @@
 -- `book::judge_number` meets its contract.
 -- Assumes nothing.
 use mathlib.Core.Path.{sym, _∙_}
-use Rattle.book.specs.Working.{numberBy}
+use Rattle.book.specs.Calls.{numberAnswer}
 use borrow.Author.Needs.{needs}
 use borrow.Author.Needs.{needs}
 use Rattle.book.proofs.judge_number.Statement.{statement}
@@ -14,11 +14,11 @@ order-requires : tie.Need-order-requires
 order-requires c κs = search needs
 
 returns : tie.Need-returns
-unfolding numberBy
+unfolding numberAnswer
 returns c = simp (sym (c .before .before .is-sound .ensures) ∙ c .before .if1 .taken) (c .order .ensures)
 
 returns-2 : tie.Need-returns-2
-unfolding numberBy
+unfolding numberAnswer
 returns-2 c = simp (sym (c .before .is-sound .ensures) ∙ c .if1 .left)
 
 pub judge-number-spec : {M : Type 1} → statement M

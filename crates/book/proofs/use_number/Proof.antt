@@ -4,9 +4,9 @@ use mathlib.Core.Path.{sym, _∙_}
 use native.Mathlib.Omega.{arith}
 use lib.ListN.{length}
 use Rattle.book.specs.Counting.{sound}
-use Rattle.book.specs.Working.{numberBy}
+use Rattle.book.specs.Calls.{numberAnswer}
 use Rattle.book.proofs.Sound.{Within, sound-gives}
-use Rattle.book.proofs.Tables.{Wanted, number-wanted}
+use Rattle.table.proofs.Tables.{Wanted, number-wanted}
 use Rattle.book.proofs.Steps.{refused-said, refused-rows, refused-lines, taken-said, taken-rows, taken-lines}
 use borrow.Author.Needs.{needs}
 use borrow.Author.Needs.{needs}
@@ -14,7 +14,7 @@ use Rattle.book.proofs.use_number.Statement.{statement}
 use Rattle.book.proofs.use_number.Tie as tie
 
 wanted-now : (s : tie.Start) → Wanted (sound (s .args .c) (length (s .args .rows .now)) (length (s .args .lines .now))) (s .args .c .wanted) (s .args .c .wanted)
-unfolding numberBy
+unfolding numberAnswer
 wanted-now s = number-wanted (sound (s .args .c) (length (s .args .rows .now)) (length (s .args .lines .now))) (s .args .c .wanted) (s .args .c .wanted) .0 (s .pre)
 
 within : (s : tie.Start) → Within (s .args .c) (length (s .args .rows .now)) (length (s .args .lines .now))
@@ -51,8 +51,8 @@ take-lines-requires c κs = search needs
 take-rows-requires : tie.Need-take-rows-requires
 take-rows-requires c κs = search needs
 
-take-counters-requires : tie.Need-take-counters-requires
-take-counters-requires c κs = (omega (arith, wanted-now (c .before .before .before .before .before .before .before .before .before .before .before .before .before .before .before .before .before .before .before) .below), omega (arith, wanted-now (c .before .before .before .before .before .before .before .before .before .before .before .before .before .before .before .before .before .before .before) .below, within (c .before .before .before .before .before .before .before .before .before .before .before .before .before .before .before .before .before .before .before) .takenFit), omega (arith, within (c .before .before .before .before .before .before .before .before .before .before .before .before .before .before .before .before .before .before .before) .linesFit))
+take-requires : tie.Need-take-requires
+take-requires c κs = (omega (arith, wanted-now (c .before .before .before .before .before .before .before .before .before .before .before .before .before .before .before .before .before .before .before) .below), omega (arith, wanted-now (c .before .before .before .before .before .before .before .before .before .before .before .before .before .before .before .before .before .before .before) .below, within (c .before .before .before .before .before .before .before .before .before .before .before .before .before .before .before .before .before .before .before) .takenFit), omega (arith, within (c .before .before .before .before .before .before .before .before .before .before .before .before .before .before .before .before .before .before .before) .linesFit))
 
 same-length-3 : tie.Need-same-length-3
 same-length-3 c = search needs
@@ -62,8 +62,8 @@ same-length-4 c = search needs
 
 returns-2 : tie.Need-returns-2
 returns-2 c =
-    let z = sym (c .before .before .before .before .before .before .before .before .before .before .before .before .number .ensures) ∙ c .before .before .before .before .before .before .before .before .before .before .before .if1 .left in
-    (taken-said (c .before .before .before .before .before .before .before .before .before .before .before .before .before .before .before .before .before .before .before .before .args .c) (c .before .before .before .before .before .before .before .before .before .before .before .before .before .before .before .before .before .before .before .before .args .rows .now) (c .before .before .before .before .before .before .before .before .before .before .before .before .before .before .before .before .before .before .before .before .args .lines .now) (c .before .before .before .before .before .before .before .before .before .before .before .before .before .before .before .before .before .before .before .before .args .message .now) (wanted-now (c .before .before .before .before .before .before .before .before .before .before .before .before .before .before .before .before .before .before .before .before)) _ (c .before .before .before .before .before .before .before .before .before .before .before .before .before .before .before .before .read .ensures) _ (c .before .before .before .before .before .before .before .before .before .before .before .before .before .judge .ensures) z _ (c .take-counters .ensures), (taken-rows (c .before .before .before .before .before .before .before .before .before .before .before .before .before .before .before .before .before .before .before .before .args .c) (c .before .before .before .before .before .before .before .before .before .before .before .before .before .before .before .before .before .before .before .before .args .rows .now) (c .before .before .before .before .before .before .before .before .before .before .before .before .before .before .before .before .before .before .before .before .args .lines .now) (c .before .before .before .before .before .before .before .before .before .before .before .before .before .before .before .before .before .before .before .before .args .message .now) (wanted-now (c .before .before .before .before .before .before .before .before .before .before .before .before .before .before .before .before .before .before .before .before)) _ (c .before .before .before .before .before .before .before .before .before .before .before .before .before .before .before .before .read .ensures) _ (c .before .before .before .before .before .before .before .before .before .before .before .before .before .judge .ensures) z _ (c .before .before .before .take-rows .ensures), taken-lines (c .before .before .before .before .before .before .before .before .before .before .before .before .before .before .before .before .before .before .before .before .args .c) (c .before .before .before .before .before .before .before .before .before .before .before .before .before .before .before .before .before .before .before .before .args .rows .now) (c .before .before .before .before .before .before .before .before .before .before .before .before .before .before .before .before .before .before .before .before .args .lines .now) (c .before .before .before .before .before .before .before .before .before .before .before .before .before .before .before .before .before .before .before .before .args .message .now) (wanted-now (c .before .before .before .before .before .before .before .before .before .before .before .before .before .before .before .before .before .before .before .before)) _ (c .before .before .before .before .before .before .before .before .before .before .before .before .before .before .before .before .read .ensures) _ (c .before .before .before .before .before .before .before .before .before .before .before .before .before .judge .ensures) z _ (c .before .before .before .before .before .before .before .take-lines .ensures)))
+    let z = (sym (c .before .before .before .before .before .before .before .before .before .before .before .before .number .ensures) ∙ c .before .before .before .before .before .before .before .before .before .before .before .if1 .left) in
+    (taken-said (c .before .before .before .before .before .before .before .before .before .before .before .before .before .before .before .before .before .before .before .before .args .c) (c .before .before .before .before .before .before .before .before .before .before .before .before .before .before .before .before .before .before .before .before .args .rows .now) (c .before .before .before .before .before .before .before .before .before .before .before .before .before .before .before .before .before .before .before .before .args .lines .now) (c .before .before .before .before .before .before .before .before .before .before .before .before .before .before .before .before .before .before .before .before .args .message .now) (wanted-now (c .before .before .before .before .before .before .before .before .before .before .before .before .before .before .before .before .before .before .before .before)) _ (c .before .before .before .before .before .before .before .before .before .before .before .before .before .before .before .before .read .ensures) _ (c .before .before .before .before .before .before .before .before .before .before .before .before .before .judge .ensures) z _ (c .take .ensures), (taken-rows (c .before .before .before .before .before .before .before .before .before .before .before .before .before .before .before .before .before .before .before .before .args .c) (c .before .before .before .before .before .before .before .before .before .before .before .before .before .before .before .before .before .before .before .before .args .rows .now) (c .before .before .before .before .before .before .before .before .before .before .before .before .before .before .before .before .before .before .before .before .args .lines .now) (c .before .before .before .before .before .before .before .before .before .before .before .before .before .before .before .before .before .before .before .before .args .message .now) (wanted-now (c .before .before .before .before .before .before .before .before .before .before .before .before .before .before .before .before .before .before .before .before)) _ (c .before .before .before .before .before .before .before .before .before .before .before .before .before .before .before .before .read .ensures) _ (c .before .before .before .before .before .before .before .before .before .before .before .before .before .judge .ensures) z _ (c .before .before .before .take-rows .ensures), taken-lines (c .before .before .before .before .before .before .before .before .before .before .before .before .before .before .before .before .before .before .before .before .args .c) (c .before .before .before .before .before .before .before .before .before .before .before .before .before .before .before .before .before .before .before .before .args .rows .now) (c .before .before .before .before .before .before .before .before .before .before .before .before .before .before .before .before .before .before .before .before .args .lines .now) (c .before .before .before .before .before .before .before .before .before .before .before .before .before .before .before .before .before .before .before .before .args .message .now) (wanted-now (c .before .before .before .before .before .before .before .before .before .before .before .before .before .before .before .before .before .before .before .before)) _ (c .before .before .before .before .before .before .before .before .before .before .before .before .before .before .before .before .read .ensures) _ (c .before .before .before .before .before .before .before .before .before .before .before .before .before .judge .ensures) z _ (c .before .before .before .before .before .before .before .take-lines .ensures)))
 
 pub use-number-spec : {M : Type 1} → statement M
 use-number-spec =
@@ -79,7 +79,7 @@ use-number-spec =
     cast-take-lines
     take-lines-requires
     take-rows-requires
-    take-counters-requires
+    take-requires
     same-length-3
     same-length-4
     returns-2)

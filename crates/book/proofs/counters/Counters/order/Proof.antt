@@ -1,7 +1,7 @@
 -- `book::counters::Counters::order` meets its contract.
 -- Assumes nothing.
 use borrow.Author.Tests.{lt-ltb, le-ltb}
-use Rattle.book.specs.Table.{numberTable}
+use Rattle.table.specs.Table.{numberTable}
 use Rattle.book.proofs.counters.Counters.order.Statement.{statement}
 use Rattle.book.proofs.counters.Counters.order.Tie as tie
 

@@ -1,0 +1,15 @@
+-- `table::take::made_line` meets its contract.
+-- Assumes nothing.
+use borrow.Author.Needs.{needs}
+use borrow.Author.Needs.{needs}
+use Rattle.table.proofs.take.made_line.Statement.{statement}
+use Rattle.table.proofs.take.made_line.Tie as tie
+
+old-key-requires : tie.Need-old-key-requires
+old-key-requires c κs = search needs
+
+returns : tie.Need-returns
+returns c = simp (c .old-key .ensures)
+
+pub made-line-spec : {M : Type 1} → statement M
+made-line-spec = tie.close (tie.spec old-key-requires returns)

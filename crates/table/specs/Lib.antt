@@ -1,0 +1,4 @@
+pub mod Messages
+pub mod Table
+pub mod Taking
+pub mod Working

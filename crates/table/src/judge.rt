@@ -1,0 +1,218 @@
+// Working the answer table: reads, changes nothing.
+use message::Reading;
+use message::Record;
+use message::Sale;
+use message::answer;
+use message::answer::Answer;
+use octets::run;
+use store::Found;
+use store::lines;
+use store::lines::Line;
+use store::rows;
+ghost use mathlib.Core.Path.{_≡_};
+ghost use mathlib.Core.List.{_∷_};
+ghost use lib.ListN.{length};
+ghost use Rattle.message.specs.Answers.{answerOf};
+ghost use Rattle.store.specs.Lines.{usedLines, lineLimit};
+ghost use Rattle.store.specs.Rows.{usedRows};
+ghost use Rattle.table.specs.Messages as Messages;
+ghost use Rattle.table.specs.Working as Working;
+
+// What the table gives, and what acting on it needs: the row of the message's symbol and the line that it names.
+pub struct Verdict {
+    pub answer: Answer,
+    pub row: usize,
+    pub line: usize,
+}
+
+fn key_of(centre: u8, control: [u8; 10]) -> [u8; 11]
+    ensures { λ r. ⌜ r ≡ centre ∷ control ⌝ }
+{
+    let mut key = [0u8; 11];
+    run::put_byte(&mut key, 0, centre);
+    run::paste(&mut key, 1, &control);
+    key
+}
+
+// The key of the original that X and C name, and of T's trade.
+pub(crate) fn old_key(r: Record) -> [u8; 11]
+    ensures { λ k. ⌜ k ≡ Messages.oldKey r ⌝ }
+{
+    let sale = r.sale;
+    let control = sale.control;
+    key_of(r.centre, control)
+}
+
+fn new_sale(r: Record) -> Sale
+    ensures { λ s. ⌜ s ≡ Messages.newSale r ⌝ }
+{
+    if r.letter == b'C' { r.new } else { r.sale }
+}
+
+// The key of the line that T and C make.
+pub(crate) fn new_key(r: Record) -> [u8; 11]
+    ensures { λ k. ⌜ k ≡ Messages.newKey r ⌝ }
+{
+    let sale = new_sale(r);
+    let control = sale.control;
+    key_of(r.centre, control)
+}
+
+// Whether the line is the trade that the message names.
+fn is_match(r: Record, l: Line) -> bool
+    ensures { λ b. ⌜ b ≡ Messages.matches r l ⌝ }
+{
+    let sale = r.sale;
+    let symbol = r.symbol;
+    let condition = sale.condition;
+    let symbol_there = l.symbol;
+    let condition_there = l.condition;
+    run::same_at(&symbol_there, 0, &symbol)
+        & (l.price == sale.price)
+        & (l.size == sale.size)
+        & run::same_at(&condition_there, 0, &condition)
+}
+
+fn plainly(a: Answer) -> Verdict
+    ensures { λ v. ⌜ v ≡ Working.plainly a ⌝ }
+{
+    Verdict {
+        answer: a,
+        row: 0,
+        line: 0,
+    }
+}
+
+// 8, 9, 10, or `Done` and the line that X and C name.
+fn judge_named(lines: &[u8], used: usize, r: Record) -> Verdict
+    ensures { λ v. ⌜ v ≡ Working.namedBy r (usedLines (now (lines .entry)) used) ⌝ }
+{
+    match lines::find(lines, used, old_key(r)) {
+        Found::Nothing => plainly(Answer::NoLine),
+        Found::At(i) => {
+            let l = lines::get(lines, i);
+            if l.live {
+                if is_match(r, l) {
+                    Verdict {
+                        answer: Answer::Done,
+                        row: 0,
+                        line: i,
+                    }
+                } else {
+                    plainly(Answer::LineDiffers)
+                }
+            } else {
+                plainly(Answer::LineDead)
+            }
+        }
+    }
+}
+
+// 11, 12 or `Done`.
+fn judge_made(lines: &[u8], used: usize, r: Record) -> Answer
+    ensures { λ a. ⌜ a ≡ answerOf (Working.madeBy r (usedLines (now (lines .entry)) used) (lineLimit (length (now (lines .entry))))) ⌝ }
+{
+    if (r.letter == b'T') | (r.letter == b'C') {
+        match lines::find(lines, used, new_key(r)) {
+            Found::Nothing => {
+                if lines::limit(lines.len()) <= used {
+                    Answer::LinesFull
+                } else {
+                    Answer::Done
+                }
+            }
+            Found::At(i) => Answer::KeyUsed,
+        }
+    } else {
+        Answer::Done
+    }
+}
+
+// 8 to 12, or `Done` and the line that X and C name.
+fn judge_trade(lines: &[u8], used: usize, r: Record) -> Verdict
+    ensures { λ v. ⌜ v ≡ Working.tradeBy r (usedLines (now (lines .entry)) used) (lineLimit (length (now (lines .entry)))) ⌝ }
+{
+    if (r.letter == b'X') | (r.letter == b'C') {
+        let named = judge_named(lines, used, r);
+        let a = named.answer;
+        if answer::number(a) != 0 {
+            return named;
+        }
+        return Verdict {
+            answer: judge_made(lines, used, r),
+            row: 0,
+            line: named.line,
+        };
+    }
+    plainly(judge_made(lines, used, r))
+}
+
+// The phase that an event begins: 1 to 6 for O S Q M E C.
+pub fn phase_of(event: u8) -> u64
+    ensures { λ p. ⌜ p ≡ Messages.phaseOf event ⌝ }
+{
+    match event {
+        b'O' => 1,
+        b'S' => 2,
+        b'Q' => 3,
+        b'M' => 4,
+        b'E' => 5,
+        b'C' => 6,
+        _ => 0,
+    }
+}
+
+// 6 to 12, or `Done`, the row of the message's symbol and the line that it names.
+fn judge_due(
+    phase: u64,
+    rows: &[u8],
+    listed: usize,
+    lines: &[u8],
+    used: usize,
+    r: Record,
+) -> Verdict
+    ensures { λ v. ⌜ v ≡ Working.dueBy phase (usedRows (now (rows .entry)) listed) (usedLines (now (lines .entry)) used) (lineLimit (length (now (lines .entry)))) r ⌝ }
+{
+    if r.letter == b'S' {
+        if phase < phase_of(r.event) {
+            return plainly(Answer::Done);
+        }
+        return plainly(Answer::NotDue);
+    }
+    if (0 < phase) & (phase < 6) {
+        let symbol = r.symbol;
+        match rows::find(rows, listed, symbol) {
+            Found::Nothing => plainly(Answer::NotListed),
+            Found::At(i) => {
+                let traded = judge_trade(lines, used, r);
+                let a = traded.answer;
+                Verdict {
+                    answer: a,
+                    row: i,
+                    line: traded.line,
+                }
+            }
+        }
+    } else {
+        plainly(Answer::NotDue)
+    }
+}
+
+// What the table gives a message that was read: 4 to 12, or `Done` and what acting on it needs. `listed` rows and `used`
+// lines of the rooms are in use.
+pub fn judge(
+    phase: u64,
+    rows: &[u8],
+    listed: usize,
+    lines: &[u8],
+    used: usize,
+    q: Reading,
+) -> Verdict
+    ensures { λ v. ⌜ v ≡ Working.judgedBy phase (usedRows (now (rows .entry)) listed) (usedLines (now (lines .entry)) used) (lineLimit (length (now (lines .entry)))) q ⌝ }
+{
+    let a = q.answer;
+    if answer::number(a) != 0 {
+        return plainly(a);
+    }
+    judge_due(phase, rows, listed, lines, used, q.found)
+}

@@ -1,0 +1,66 @@
+-- `walk::walk` meets its contract.
+-- Assumes nothing.
+use mathlib.Core.Path.{_≡_, sym, _∙_}
+use Prim.Native.Nat.{_-_, _*_, _≤_}
+use native.Mathlib.Nat.{sub-zero}
+use native.Mathlib.Omega.{arith}
+use lib.ListN.{length}
+use Rattle.octets.specs.Run.{tab}
+use Rattle.store.specs.Lines.{lineAt, lineLimit, usedLines}
+use Rattle.walk.specs.Figures.{fold, tally, figuresOf}
+use Rattle.walk.proofs.Laws.{fold-step, fold-end}
+use borrow.Author.Needs.{needs}
+use Rattle.walk.proofs.walk.Statement.{statement}
+use Rattle.walk.proofs.walk.Tie as tie
+
+abbrev Inv-loop : tie.InvT-loop
+Inv-loop lines used symbol n t₀ i₀ t i = (i ≤ n) × (n ≤ lineLimit (length lines)) × (t .volume ≤ i * 4294967295) × (t .count ≤ i) × (fold (tally symbol) t (tab (lineAt lines) i (n - i)) ≡ figuresOf symbol (usedLines lines used))
+
+abbrev μ-loop : tie.MeasureT-loop
+μ-loop lines used symbol n t₀ i₀ t i = n - i
+
+limit-requires : tie.Need-limit-requires Inv-loop μ-loop
+limit-requires c κs = search needs
+
+lesser-requires : tie.Need-lesser-requires Inv-loop μ-loop
+lesser-requires c κs = search needs
+
+loop-holds : tie.Need-loop-holds Inv-loop μ-loop
+unfolding usedLines figuresOf
+loop-holds c = (omega arith, omega (arith, c .lesser .ensures, c .before .limit .ensures), omega arith, omega arith, rw (sub-zero, c .lesser .ensures, c .before .limit .ensures))
+
+mul-with-line : tie.Need-mul-with-line Inv-loop μ-loop
+mul-with-line c = omega arith
+
+with-line-requires : tie.Need-with-line-requires Inv-loop μ-loop
+with-line-requires c κs = omega arith
+
+add-i : tie.Need-add-i Inv-loop μ-loop
+add-i c = omega arith
+
+loop-less : tie.Need-loop-less Inv-loop μ-loop
+loop-less c = omega arith
+
+loop-again : tie.Need-loop-again Inv-loop μ-loop
+loop-again c =
+    let l = c .before .before .loop in
+    (omega arith, l .inv .1, omega (arith, c .with-line .ensures .1), omega (arith, c .with-line .ensures .1), rw (c .with-line .ensures .0) (sym (fold-step _ _ _ _ _ (c .before .loop-test .taken)) ∙ l .inv .4))
+
+returns : tie.Need-returns Inv-loop μ-loop
+returns c = sym (fold-end _ _ _ _ _ (c .loop-test .left)) ∙ c .before .loop .inv .4
+
+pub walk-spec : {M : Type 1} → statement M
+walk-spec =
+    tie.close
+    (tie.spec
+    Inv-loop
+    μ-loop
+    limit-requires
+    lesser-requires
+    loop-holds
+    mul-with-line
+    with-line-requires
+    add-i
+    loop-less
+    loop-again
+    returns)

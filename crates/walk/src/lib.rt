@@ -1,0 +1,139 @@
+// The walk of one symbol's live lines into its figures.
+use sheet::Marks;
+use store::lines::CELL;
+use store::lines::CONDITION;
+use store::lines::LIVE;
+use store::lines::PLACE;
+use store::lines::PRICE;
+use store::lines::SIZE;
+use store::lines::SYMBOL;
+ghost use mathlib.Core.Path.{_≡_};
+ghost use mathlib.Core.Bool.{cond};
+ghost use Prim.Native.Nat.{_+_, _*_, _≤_, _<_, _^_};
+ghost use lib.ListN.{length};
+ghost use Rattle.store.specs.Lines.{lineFrom, usedLines};
+ghost use Rattle.walk.specs.Figures.{raise, lower, later, sold, tally, figuresOf};
+
+pub enum Price {
+    Absent,
+    Of(u32),
+}
+
+// The newest trade that may be the last: its place and its price.
+pub enum Last {
+    NoLast,
+    Sale(u32, u32),
+}
+
+// What a row reads from the live lines of its symbol.
+pub struct Figures {
+    pub volume: u64,
+    pub count: u64,
+    pub high: Price,
+    pub low: Price,
+    pub last: Last,
+}
+
+fn higher(h: Price, marked: bool, p: u32) -> Price
+    ensures { λ r. ⌜ r ≡ cond marked (raise h p) h ⌝ }
+{
+    if marked {
+        match h {
+            Price::Absent => Price::Of(p),
+            Price::Of(q) => { if q < p { Price::Of(p) } else { Price::Of(q) } }
+        }
+    } else {
+        h
+    }
+}
+
+fn lowered(h: Price, marked: bool, p: u32) -> Price
+    ensures { λ r. ⌜ r ≡ cond marked (lower h p) h ⌝ }
+{
+    if marked {
+        match h {
+            Price::Absent => Price::Of(p),
+            Price::Of(q) => { if p < q { Price::Of(p) } else { Price::Of(q) } }
+        }
+    } else {
+        h
+    }
+}
+
+fn latest(l: Last, marked: bool, place: u32, price: u32) -> Last
+    ensures { λ r. ⌜ r ≡ cond marked (later l place price) l ⌝ }
+{
+    if marked {
+        match l {
+            Last::NoLast => Last::Sale(place, price),
+            Last::Sale(v, q) => {
+                if v < place {
+                    Last::Sale(place, price)
+                } else {
+                    Last::Sale(v, q)
+                }
+            }
+        }
+    } else {
+        l
+    }
+}
+
+// The figures with one more trade.
+fn with_sale(t: Figures, price: u32, size: u32, place: u32, marks: Marks) -> Figures
+    requires { ⌜ (t .volume + 2 ^ 32 ≤ 2 ^ 64) × (t .count + 1 < 2 ^ 64) ⌝ }
+    ensures { λ r. ⌜ r ≡ sold t price size place marks ⌝ }
+{
+    let high = t.high;
+    let low = t.low;
+    let last = t.last;
+    Figures {
+        volume: t.volume + (size as u64),
+        count: t.count + 1,
+        high: higher(high, marks.high_low, price),
+        low: lowered(low, marks.high_low, price),
+        last: latest(last, marks.last, place, price),
+    }
+}
+
+// The figures with the line whose cell starts at a place, if it is live and of the symbol.
+fn with_line(t: Figures, lines: &[u8], at: usize, symbol: [u8; 8]) -> Figures
+    requires { ⌜ at + 40 ≤ length (now lines) ⌝ }
+    requires { ⌜ (t .volume + 2 ^ 32 ≤ 2 ^ 64) × (t .count + 1 < 2 ^ 64) ⌝ }
+    ensures { λ r. ⌜ r ≡ tally symbol t (lineFrom (now (lines .entry)) at) ⌝ }
+    ensures { λ r. ⌜ (r .volume < t .volume + 2 ^ 32) × (r .count ≤ t .count + 1) ⌝ }
+{
+    if octets::run::byte(lines, at + LIVE) != 1 {
+        return t;
+    }
+    if octets::run::same_at(lines, at + SYMBOL, &symbol) {
+        let mut condition = [0u8; 4];
+        octets::run::fill(&mut condition, lines, at + CONDITION);
+        let price = octets::number::number4(lines, at + PRICE);
+        let size = octets::number::number4(lines, at + SIZE);
+        let place = octets::number::number4(lines, at + PLACE);
+        with_sale(t, price, size, place, sheet::condition_marks(condition))
+    } else {
+        t
+    }
+}
+
+// The figures of a symbol, from its live lines among those used.
+pub fn walk(lines: &[u8], used: usize, symbol: [u8; 8]) -> Figures
+    ensures { λ r. ⌜ r ≡ figuresOf symbol (usedLines (now (lines .entry)) used) ⌝ }
+{
+    let n = store::lesser(used, store::lines::limit(lines.len()));
+    let mut t = Figures {
+        volume: 0,
+        count: 0,
+        high: Price::Absent,
+        low: Price::Absent,
+        last: Last::NoLast,
+    };
+    let mut i: usize = 0;
+    while i < n {
+        t = with_line(t, lines, i * CELL, symbol);
+        i += 1;
+    }
+    t
+}
