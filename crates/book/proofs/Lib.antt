@@ -2,3 +2,4 @@ pub mod Signed
 pub mod Sound
 pub mod Demand1
 pub mod Steps
+pub mod Promise
