@@ -8,9 +8,9 @@ use Prim.Native.Nat.{ℕ, zero, suc, _+_, _-_, _*_, _≤_, _<_}
 use native.Mathlib.Nat.{add-zero}
 use native.Mathlib.Numerals.{add-one}
 use native.Mathlib.Omega.{arith}
-use borrow.Author.Tests.{ne-eqb, eq-eqb, lt-ltb, le-ltb}
+use borrow.Author.Tests.{lt-ltb, le-ltb}
 use lib.Dec.{eqb, ltb}
-use lib.ListN.{length, getD, set}
+use lib.ListN.{length, set, replicate}
 use lib.Seq.{sets}
 use Rattle.octets.specs.Run.{tab, part, same}
 use Rattle.octets.specs.Number.{be, digits}
@@ -47,51 +47,56 @@ module _ {A : Type 0} (a b : A) (i n k : ℕ) (e : n ≡ k) where
   pub outside : n ≤ i → cond (ltb i k) a b ≡ b
   outside h = rw (← e, le-ltb i n h)
 
--- ---- cells stored field by field
+-- a run stored behind another makes one run
+then-stored : (xs ys m a : List ℕ) (at n : ℕ) → a ≡ sets m at xs → at + length xs ≡ n → sets a n ys ≡ sets m at (xs ++ ys)
+then-stored xs ys m a at n e h = ap (λ (l : List ℕ). sets l n ys) e ∙ sets-then xs ys m at n h
 
-pub line-stored : (m : List ℕ) (at : ℕ) (l : Line) → length (l .key) ≡ 11 → length (l .symbol) ≡ 8 → length (l .condition) ≡ 4
-    → set (sets (sets (sets (sets (sets (sets (sets m at (l .key)) (at + 11) (l .symbol)) (at + 19) (digits 4 (l .price))) (at + 23) (digits 4 (l .size))) (at + 27) (l .condition)) (at + 31) (digits 4 (l .place))) (at + 35) (digits 4 (l .time))) (at + 39) (mark (l .live))
-    ≡ sets m at (lineBytes l)
+-- ---- cells stored field by field: each step is what one store left
+
+pub line-stored : (m a b c d e f g out : List ℕ) (at : ℕ) (l : Line) → length (l .key) ≡ 11 → length (l .symbol) ≡ 8 → length (l .condition) ≡ 4
+    → a ≡ sets m at (l .key) → b ≡ sets a (at + 11) (l .symbol) → c ≡ sets b (at + 19) (digits 4 (l .price)) → d ≡ sets c (at + 23) (digits 4 (l .size))
+    → e ≡ sets d (at + 27) (l .condition) → f ≡ sets e (at + 31) (digits 4 (l .place)) → g ≡ sets f (at + 35) (digits 4 (l .time))
+    → (v : ℕ) → v ≡ mark (l .live) → out ≡ set g (at + 39) v → out ≡ sets m at (lineBytes l)
 unfolding lineBytes
-line-stored m at l ek es ec =
+line-stored m a b c d e f g out at l hk hs hc ea eb ec ed ee ef eg v ev eo =
     let k = l .key in
     let s = l .symbol in
     let p = digits 4 (l .price) in
     let z = digits 4 (l .size) in
-    let c = l .condition in
+    let n = l .condition in
     let w = digits 4 (l .place) in
     let t = digits 4 (l .time) in
-    let v = mark (l .live) ∷ [] in
-    let m1 = sets m at k in
-    let m2 = sets m1 (at + 11) s in
-    let m3 = sets m2 (at + 19) p in
-    let m4 = sets m3 (at + 23) z in
-    let m5 = sets m4 (at + 27) c in
-    let m6 = sets m5 (at + 31) w in
-    sets-then t v m6 (at + 35) (at + 39) (omega (arith, digits-length 4 (l .time)))
-    ∙ sets-then w (t ++ v) m5 (at + 31) (at + 35) (omega (arith, digits-length 4 (l .place)))
-    ∙ sets-then c (w ++ (t ++ v)) m4 (at + 27) (at + 31) (omega (arith, ec))
-    ∙ sets-then z (c ++ (w ++ (t ++ v))) m3 (at + 23) (at + 27) (omega (arith, digits-length 4 (l .size)))
-    ∙ sets-then p (z ++ (c ++ (w ++ (t ++ v)))) m2 (at + 19) (at + 23) (omega (arith, digits-length 4 (l .price)))
-    ∙ sets-then s (p ++ (z ++ (c ++ (w ++ (t ++ v))))) m1 (at + 11) (at + 19) (omega (arith, es))
-    ∙ sets-then k (s ++ (p ++ (z ++ (c ++ (w ++ (t ++ v)))))) m at (at + 11) (omega (arith, ek))
+    let y = mark (l .live) ∷ [] in
+    eo
+    ∙ ap (λ (x : ℕ). set g (at + 39) x) ev
+    ∙ then-stored t y f g (at + 35) (at + 39) eg (omega (arith, digits-length 4 (l .time)))
+    ∙ then-stored w (t ++ y) e f (at + 31) (at + 35) ef (omega (arith, digits-length 4 (l .place)))
+    ∙ then-stored n (w ++ (t ++ y)) d e (at + 27) (at + 31) ee (omega (arith, hc))
+    ∙ then-stored z (n ++ (w ++ (t ++ y))) c d (at + 23) (at + 27) ed (omega (arith, digits-length 4 (l .size)))
+    ∙ then-stored p (z ++ (n ++ (w ++ (t ++ y)))) b c (at + 19) (at + 23) ec (omega (arith, digits-length 4 (l .price)))
+    ∙ then-stored s (p ++ (z ++ (n ++ (w ++ (t ++ y))))) a b (at + 11) (at + 19) eb (omega (arith, hs))
+    ∙ then-stored k (s ++ (p ++ (z ++ (n ++ (w ++ (t ++ y)))))) m a at (at + 11) ea (omega (arith, hk))
 
-pub row-stored : (m : List ℕ) (at : ℕ) (symbol rest : List ℕ) (close : ℕ) → length symbol ≡ 8
-    → sets (sets (sets m at symbol) (at + 8) (digits 4 close)) (at + 12) rest ≡ sets m (at + 0) (symbol ++ (digits 4 close ++ rest))
-row-stored m at symbol rest close e =
+pub row-stored : (m a b out : List ℕ) (at : ℕ) (symbol : List ℕ) (close : ℕ) → length symbol ≡ 8
+    → a ≡ sets m at symbol → b ≡ sets a (at + 8) (digits 4 close) → out ≡ sets b (at + 12) (replicate 18 0)
+    → out ≡ sets m (at + 0) (newRow symbol close)
+unfolding newRow
+row-stored m a b out at symbol close h ea eb eo =
     let d = digits 4 close in
-    let m1 = sets m at symbol in
-    rw add-zero (
-    sets-then d rest m1 (at + 8) (at + 12) (omega (arith, digits-length 4 close))
-    ∙ sets-then symbol (d ++ rest) m at (at + 8) (omega (arith, e)))
+    let r : List ℕ = replicate 18 0 in
+    eo
+    ∙ then-stored d r a b (at + 8) (at + 12) eb (omega (arith, digits-length 4 close))
+    ∙ then-stored symbol (d ++ r) m a at (at + 8) ea (omega (arith, h))
+    ∙ ap (λ (k : ℕ). sets m k (symbol ++ (d ++ r))) (sym (add-zero at))
 
-pub report-stored : (m : List ℕ) (at v : ℕ) → sets (set m (at + 21) 1) (at + 22) (digits 8 v) ≡ sets m (at + 21) (reportBytes v)
+pub report-stored : (m a out : List ℕ) (at v : ℕ) → a ≡ set m (at + 21) 1 → out ≡ sets a (at + 22) (digits 8 v) → out ≡ sets m (at + 21) (reportBytes v)
 unfolding reportBytes
-report-stored m at v = sets-then (1 ∷ []) (digits 8 v) m (at + 21) (at + 22) (omega arith)
+report-stored m a out at v ea eo = eo ∙ then-stored (1 ∷ []) (digits 8 v) m a (at + 21) (at + 22) ea (omega arith)
 
-pub summary-stored : (m : List ℕ) (at h l : ℕ)
-    → sets (sets (set m (at + 12) 1) (at + 13) (digits 4 h)) (at + 17) (digits 4 l) ≡ sets m (at + 12) (summaryBytes h l)
+pub summary-stored : (m a b out : List ℕ) (at h l : ℕ) → a ≡ set m (at + 12) 1 → b ≡ sets a (at + 13) (digits 4 h) → out ≡ sets b (at + 17) (digits 4 l)
+    → out ≡ sets m (at + 12) (summaryBytes h l)
 unfolding summaryBytes
-summary-stored m at h l =
-    sets-then (digits 4 h) (digits 4 l) (set m (at + 12) 1) (at + 13) (at + 17) (omega (arith, digits-length 4 h))
-    ∙ sets-then (1 ∷ []) (digits 4 h ++ digits 4 l) m (at + 12) (at + 13) (omega arith)
+summary-stored m a b out at h l ea eb eo =
+    eo
+    ∙ then-stored (digits 4 h) (digits 4 l) a b (at + 13) (at + 17) eb (omega (arith, digits-length 4 h))
+    ∙ then-stored (1 ∷ []) (digits 4 h ++ digits 4 l) m a (at + 12) (at + 13) ea (omega arith)

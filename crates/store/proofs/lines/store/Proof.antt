@@ -81,7 +81,7 @@ same-length c = search needs
 returns : tie.Need-returns
 returns c =
     let s = c .before .before .before .before .before .before .before .before .before .before .before .before .before .before .before .before .before .before .before .before .before .before .before .before .before .before .before .before .before .before .before .before .before .before .before .before .before .before .before .before in
-    rw (c .before .before .put-byte .ensures, c .before .before .before .mark-of .ensures, c .before .before .before .before .before .before .before .put44 .ensures, c .before .before .before .before .before .before .before .before .before .before .before .put43 .ensures, c .before .before .before .before .before .before .before .before .before .before .before .before .before .before .before .paste3 .ensures, c .before .before .before .before .before .before .before .before .before .before .before .before .before .before .before .before .before .before .before .before .put42 .ensures, c .before .before .before .before .before .before .before .before .before .before .before .before .before .before .before .before .before .before .before .before .before .before .before .before .put4 .ensures, c .before .before .before .before .before .before .before .before .before .before .before .before .before .before .before .before .before .before .before .before .before .before .before .before .before .before .before .before .paste2 .ensures, c .before .before .before .before .before .before .before .before .before .before .before .before .before .before .before .before .before .before .before .before .before .before .before .before .before .before .before .before .before .before .before .before .before .paste .ensures) (line-stored (s .args .lines .now) (s .args .at) (s .args .l) (key-long s) (symbol-long s) (condition-long s))
+    line-stored (s .args .lines .now) _ _ _ _ _ _ _ _ (s .args .at) (s .args .l) (key-long s) (symbol-long s) (condition-long s) (c .before .before .before .before .before .before .before .before .before .before .before .before .before .before .before .before .before .before .before .before .before .before .before .before .before .before .before .before .before .before .before .before .before .paste .ensures) (c .before .before .before .before .before .before .before .before .before .before .before .before .before .before .before .before .before .before .before .before .before .before .before .before .before .before .before .before .paste2 .ensures) (c .before .before .before .before .before .before .before .before .before .before .before .before .before .before .before .before .before .before .before .before .before .before .before .before .put4 .ensures) (c .before .before .before .before .before .before .before .before .before .before .before .before .before .before .before .before .before .before .before .before .put42 .ensures) (c .before .before .before .before .before .before .before .before .before .before .before .before .before .before .before .paste3 .ensures) (c .before .before .before .before .before .before .before .before .before .before .before .put43 .ensures) (c .before .before .before .before .before .before .before .put44 .ensures) _ (c .before .before .before .mark-of .ensures) (c .before .before .put-byte .ensures)
 
 pub store-spec : {M : Type 1} → statement M
 store-spec =

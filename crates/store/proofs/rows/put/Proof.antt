@@ -1,10 +1,10 @@
 -- `store::rows::put` meets its contract.
 -- Assumes nothing.
-use mathlib.Core.Path.{_≡_, sym}
+use mathlib.Core.Path.{_≡_, sym, _∙_}
 use Prim.Native.Nat.{_*_}
-use lib.ListN.{length, replicate}
+use lib.ListN.{length}
 use Rattle.store.proofs.Laws.{inside, outside, row-stored}
-use Rattle.store.specs.Rows.{inRow, newRow}
+use Rattle.store.specs.Rows.{inRow}
 use borrow.Author.Needs.{needs}
 use borrow.Author.Needs.{needs}
 use Rattle.store.proofs.rows.put.Statement.{statement}
@@ -44,11 +44,12 @@ same-length : tie.Need-same-length
 same-length c = search needs
 
 returns : tie.Need-returns
-unfolding inRow newRow
+unfolding inRow
 returns c =
     let s = c .before .before .before .before .before .before .before .before .before .before .before .before .before .before .before .before .before in
     let a = s .args in
-    rw (c .before .before .paste2 .ensures, c .before .before .before .before .before .before .before .put4 .ensures, c .before .before .before .before .before .before .before .before .before .before .before .paste .ensures, row-stored (a .rows .now) (a .i * 30) (a .t3) (replicate 18 0) (a .close) (symbol-long s)) (sym (inside _ _ _ _ _ (c .before .before .before .before .before .before .before .before .before .before .before .before .before .before .before .limit .ensures) (c .before .before .before .before .before .before .before .before .before .before .before .before .before .before .if1 .taken)))
+    row-stored (a .rows .now) _ _ _ (a .i * 30) (a .t3) (a .close) (symbol-long s) (c .before .before .before .before .before .before .before .before .before .before .before .paste .ensures) (c .before .before .before .before .before .before .before .put4 .ensures) (c .before .before .paste2 .ensures)
+    ∙ sym (inside _ _ _ _ _ (c .before .before .before .before .before .before .before .before .before .before .before .before .before .before .before .limit .ensures) (c .before .before .before .before .before .before .before .before .before .before .before .before .before .before .if1 .taken))
 
 returns-2 : tie.Need-returns-2
 unfolding inRow

@@ -1,6 +1,7 @@
 -- `store::rows::report` meets its contract.
 -- Assumes nothing.
-use mathlib.Core.Path.{sym}
+use mathlib.Core.Path.{sym, _∙_}
+use Prim.Native.Nat.{_*_}
 use Rattle.store.proofs.Laws.{inside, outside, report-stored}
 use Rattle.store.specs.Rows.{inRow}
 use borrow.Author.Needs.{needs}
@@ -32,8 +33,9 @@ same-length c = search needs
 returns : tie.Need-returns
 unfolding inRow
 returns c =
-    let s = c .before .before .before .before .before .before .before .before .before .before .before in
-    rw (c .before .before .put8 .ensures, c .before .before .before .before .before .before .put-byte .ensures, report-stored) (sym (inside _ _ _ _ _ (c .before .before .before .before .before .before .before .before .before .limit .ensures) (c .before .before .before .before .before .before .before .before .if1 .taken)))
+    let a = c .before .before .before .before .before .before .before .before .before .before .before .args in
+    report-stored (a .rows .now) _ _ (a .i * 30) (a .volume) (c .before .before .before .before .before .before .put-byte .ensures) (c .before .before .put8 .ensures)
+    ∙ sym (inside _ _ _ _ _ (c .before .before .before .before .before .before .before .before .before .limit .ensures) (c .before .before .before .before .before .before .before .before .if1 .taken))
 
 returns-2 : tie.Need-returns-2
 unfolding inRow

@@ -1,6 +1,7 @@
 -- `store::rows::summarise` meets its contract.
 -- Assumes nothing.
-use mathlib.Core.Path.{sym}
+use mathlib.Core.Path.{sym, _∙_}
+use Prim.Native.Nat.{_*_}
 use Rattle.store.proofs.Laws.{inside, outside, summary-stored}
 use Rattle.store.specs.Rows.{inRow}
 use borrow.Author.Needs.{needs}
@@ -38,7 +39,9 @@ same-length c = search needs
 returns : tie.Need-returns
 unfolding inRow
 returns c =
-    rw (c .before .before .put42 .ensures, c .before .before .before .before .before .before .put4 .ensures, c .before .before .before .before .before .before .before .before .before .before .put-byte .ensures, summary-stored) (sym (inside _ _ _ _ _ (c .before .before .before .before .before .before .before .before .before .before .before .before .before .limit .ensures) (c .before .before .before .before .before .before .before .before .before .before .before .before .if1 .taken)))
+    let a = c .before .before .before .before .before .before .before .before .before .before .before .before .before .before .before .args in
+    summary-stored (a .rows .now) _ _ _ (a .i * 30) (a .high) (a .low) (c .before .before .before .before .before .before .before .before .before .before .put-byte .ensures) (c .before .before .before .before .before .before .put4 .ensures) (c .before .before .put42 .ensures)
+    ∙ sym (inside _ _ _ _ _ (c .before .before .before .before .before .before .before .before .before .before .before .before .before .limit .ensures) (c .before .before .before .before .before .before .before .before .before .before .before .before .if1 .taken))
 
 returns-2 : tie.Need-returns-2
 unfolding inRow
