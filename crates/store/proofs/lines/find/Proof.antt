@@ -1,6 +1,7 @@
 -- `store::lines::find` meets its contract.
 -- Assumes nothing.
-use mathlib.Core.Path.{_≡_, sym, _∙_}
+use mathlib.Core.Path.{_≡_, ap, sym, _∙_}
+use mathlib.Core.List.{List}
 use Prim.Native.Nat.{ℕ, _-_, _*_, _≤_}
 use native.Mathlib.Nat.{sub-zero}
 use native.Mathlib.Omega.{arith}
@@ -46,7 +47,9 @@ unfolding usedLines
 lines-holds c = (omega arith, omega (arith, c .lesser .ensures, c .before .limit .ensures), rw (sub-zero, c .lesser .ensures, c .before .limit .ensures))
 
 bytes-holds : tie.Need-bytes-holds Inv-bytes μ-bytes Inv-lines μ-lines
-bytes-holds c = (omega arith, rw (part-left, here (c .before .before .before .before .before)))
+bytes-holds c =
+    let a = c .before .before .before .before .before .args in
+    (omega arith, ap (λ (xs : List ℕ). same xs (a .t3)) (part-left (a .lines .now) _ (length (a .t3))) ∙ here (c .before .before .before .before .before) _)
 
 mul-if3 : tie.Need-mul-if3 Inv-bytes μ-bytes Inv-lines μ-lines
 mul-if3 c = omega arith
