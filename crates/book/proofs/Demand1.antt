@@ -311,12 +311,14 @@ module _ (c : Counters) (rows lines : List ℕ) where
     -- a listing: all but the new row's cell
     pub listing : (symbol : List ℕ) (close j : ℕ) → length symbol ≡ 8 → Outside (c .rows * 30) (c .rows * 30 + 30) j
         → getD (listRows c rows lines symbol close) j 0 ≡ getD rows j 0
-    -- a message, rows: all but what its row keeps behind symbol and close
-    pub inRows : (n : ℕ) (m : List ℕ) (j : ℕ) → Outside (rowNamed m * 30 + 12) (rowNamed m * 30 + 30) j
+    -- a message, rows: all but what its row keeps behind symbol and close; an event touches none
+    pub inRows : (n : ℕ) (m : List ℕ) (j : ℕ) → (isEvent (readOf m .found) ≡ false → Outside (rowNamed m * 30 + 12) (rowNamed m * 30 + 30) j)
         → getD (deliverRows c rows lines n m) j 0 ≡ getD rows j 0
-    -- a message, lines: all but the named line's live mark and the new line's cell
-    pub inLines : (n : ℕ) (m : List ℕ) (j : ℕ) → Bytes lines → Bytes m → (j ≡ lineNamed m * 40 + 39 → ⊥)
-        → Outside (c .lines * 40) (c .lines * 40 + 40) j → getD (deliverLines c rows lines n m) j 0 ≡ getD lines j 0
+    -- a message, lines: all but the live mark of the line that X and C name, and the new cell of T and C
+    pub inLines : (n : ℕ) (m : List ℕ) (j : ℕ) → Bytes lines → Bytes m
+        → (namesOld (readOf m .found) ≡ true → j ≡ lineNamed m * 40 + 39 → ⊥)
+        → (makesNew (readOf m .found) ≡ true → Outside (c .lines * 40) (c .lines * 40 + 40) j)
+        → getD (deliverLines c rows lines n m) j 0 ≡ getD lines j 0
     pub listedLength : (symbol : List ℕ) (close : ℕ) → length (listRows c rows lines symbol close) ≡ length rows
     pub rowsLength : (n : ℕ) (m : List ℕ) → length (deliverRows c rows lines n m) ≡ length rows
     pub linesLength : (n : ℕ) (m : List ℕ) → length (deliverLines c rows lines n m) ≡ length lines
@@ -327,19 +329,21 @@ module _ (c : Counters) (rows lines : List ℕ) where
       let e : length (newRow symbol close) ≡ 30 = new-row-length symbol close l in
       row-outside rows (c .rows) 0 (newRow symbol close) (c .rows * 30) (c .rows * 30 + 30) j (omega arith) (omega arith) (omega arith) o
 
-  taking-keeps : (n : ℕ) (m : List ℕ) (j : ℕ) → Bytes lines → Bytes m → (j ≡ lineNamed m * 40 + 39 → ⊥) → Outside (c .lines * 40) (c .lines * 40 + 40) j
+  taking-keeps : (n : ℕ) (m : List ℕ) (j : ℕ) → Bytes lines → Bytes m
+      → (namesOld (readOf m .found) ≡ true → j ≡ lineNamed m * 40 + 39 → ⊥)
+      → (makesNew (readOf m .found) ≡ true → Outside (c .lines * 40) (c .lines * 40 + 40) j)
       → deliverAnswer c rows lines n m ≡ 0 → getD (linesBy lines (c .lines) (c .wanted) (readOf m .found) (lineNamed m)) j 0 ≡ getD lines j 0
   taking-keeps n m j bl bm k o z =
       let w = answer-taken c rows lines n m z in
       let fits : c .wanted < 2 ^ 32 = omega arith in
-      lines-by-keep lines (c .lines) (c .wanted) (readOf m .found) (lineNamed m) j bl (read-fits m bm) fits (λ e. k) (λ e. o)
+      lines-by-keep lines (c .lines) (c .wanted) (readOf m .found) (lineNamed m) j bl (read-fits m bm) fits k o
 
   pub touches-only : TouchesOnly
   unfolding listRows deliverRows deliverLines
   touches-only =
       record {
         listing = λ symbol close j l o. by-answer (byte j) (listAnswer c rows lines symbol close) _ rows (λ z. listing-keeps symbol close j l o);
-        inRows = λ n m j o. by-answer (byte j) (deliverAnswer c rows lines n m) _ rows (λ z. rows-by-keep rows (readOf m .found) (rowNamed m) j (λ e. o));
+        inRows = λ n m j o. by-answer (byte j) (deliverAnswer c rows lines n m) _ rows (λ z. rows-by-keep rows (readOf m .found) (rowNamed m) j o);
         inLines = λ n m j bl bm k o. by-answer (byte j) (deliverAnswer c rows lines n m) _ lines (λ z. taking-keeps n m j bl bm k o z);
         listedLength = λ symbol close. by-answer length (listAnswer c rows lines symbol close) _ rows (λ z. row-length rows (c .rows) 0 (newRow symbol close));
         rowsLength = λ n m. by-answer length (deliverAnswer c rows lines n m) _ rows (λ z. rows-by-length rows (readOf m .found) (rowNamed m));

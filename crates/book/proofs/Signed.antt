@@ -1,7 +1,7 @@
 -- The difference of two prices, each of 32 bits, is exact in 64 signed bits.
 -- Assumes nothing.
 use Prim.Native.Nat.{ℕ, zero, suc, _<_, _^_, _-_}
-use mathlib.Core.Path.{_≡_, ap, _∙_, subst⁻¹}
+use mathlib.Core.Path.{_≡_, refl, ap, _∙_, subst⁻¹}
 use mathlib.Core.Bool.{Bool, true, false, cond}
 use lib.Dec.{ltb}
 use native.Mathlib.Omega.{arith}
@@ -10,6 +10,9 @@ use lib.Signed.{mag}
 use mir.Syntax.{w64}
 use mir.Val.{SFits, toZ}
 use mir.Facts.{toZ-pos}
+use Rattle.walk.specs.declared.Price.the-variants.{Of}
+use Rattle.book.specs.declared.show.Net.the-variants.{Amount}
+use Rattle.book.specs.Showing.{netOf}
 
 size-of : (t : Bool) (x y n : ℕ) → x < n → y < n → mag (cond t (negsuc x) (pos y)) < n
 size-of true x y n hx hy = hx
@@ -28,3 +31,7 @@ net-is p q hp hq =
 
 pub net-fits : (p q : ℕ) → p < 2 ^ 32 → q < 2 ^ 32 → SFits w64 (toZ w64 p -ℤ toZ w64 q)
 net-fits p q hp hq = subst⁻¹ (λ (z : ℤ). SFits w64 z) (net-is p q hp hq) (record { sfits = below p q hp hq })
+
+-- at both ends and at zero
+pub net-ends : (netOf (Of 1) 2000000000 ≡ Amount (negsuc 1999999998)) × (netOf (Of 2000000000) 1 ≡ Amount (pos 1999999999)) × (netOf (Of 2000000000) 2000000000 ≡ Amount (pos 0))
+net-ends = (refl, refl, refl)

@@ -1,11 +1,17 @@
 -- `book::deliver` meets its contract.
 -- Assumes nothing.
 use mathlib.Core.Path.{sym, _∙_}
+use Rattle.octets.specs.Run.{Bytes}
 use Rattle.book.proofs.Steps.{early-said, wanted-number, wanted-said}
 use borrow.Author.Needs.{needs}
 use borrow.Author.Needs.{needs}
 use Rattle.book.proofs.deliver.Statement.{statement}
 use Rattle.book.proofs.deliver.Tie as tie
+
+-- what a call lends are bytes
+pub entered : (c : tie.After-shared-slice-known)
+    → Bytes (c .before .before .before .args .rows .now) × Bytes (c .before .before .before .args .lines .now) × Bytes (c .before .before .before .args .message .now)
+entered c = (λ i. c .before .before .slice-known .given i .fits, λ i. c .before .slice-known2 .given i .fits, λ i. c .shared-slice-known .given i .fits)
 
 judge-number-requires : tie.Need-judge-number-requires
 judge-number-requires c κs = search needs

@@ -1,11 +1,16 @@
 -- `book::row` meets its contract.
 -- Assumes nothing.
 use mathlib.Core.Path.{sym, _∙_}
+use Rattle.octets.specs.Run.{Bytes}
 use Rattle.book.proofs.Steps.{row-refused, row-there}
 use borrow.Author.Needs.{needs}
 use borrow.Author.Needs.{needs}
 use Rattle.book.proofs.row.Statement.{statement}
 use Rattle.book.proofs.row.Tie as tie
+
+-- what a call lends are bytes
+pub entered : (c : tie.After-shared-slice-known2) → Bytes (c .before .before .args .rows .now) × Bytes (c .before .before .args .lines .now)
+entered c = (λ i. c .before .shared-slice-known .given i .fits, λ i. c .shared-slice-known2 .given i .fits)
 
 find-row-requires : tie.Need-find-row-requires
 find-row-requires c κs = search needs
