@@ -1,11 +1,11 @@
--- Of each call, whatever counters, lent bytes, number, message and symbol arrive: its answer is one of its list, a refusal
--- keeps everything but the number that it uses up, and every lent byte outside the cells that it may store in stays.
+-- Of `list`, `deliver` and `row`, whatever counters, lent bytes, number, message and symbol arrive: the answer is one of the call's list,
+-- a refusal keeps everything but the number that it uses up, and every lent byte outside the cells that the call may store in stays.
 -- Assumes nothing.
 use Prim.Native.Nat.{ℕ, suc, _+_, _*_, _^_, _≤_, _<_}
-use mathlib.Core.Path.{_≡_, refl, ap, _∙_}
-use mathlib.Core.Logic.{_⊎_, ⊎-elim}
+use mathlib.Core.Path.{_≡_, refl, ap, sym, _∙_}
+use mathlib.Core.Logic.{_⊎_, _↔_, ⊎-elim}
 use mathlib.Core.List.{List, [], _∷_, _++_, map, List·Memᴰ, List·Memᴰ·head, List·Memᴰ·tail, List·Memᴰ·not-nil, List·Memᴰ·cases-cons, Memᴰ·append-left, Memᴰ·append-right}
-use mathlib.Core.Bool.{Bool, true, false, cond, not, _&&_, _||_, and-eq-true-iff}
+use mathlib.Core.Bool.{Bool, true, false, cond, not, _&&_, _||_, and-eq-true-iff, true≢false}
 use native.Mathlib.Omega.{arith}
 use borrow.Author.Tests.{eqb-true, ne-eqb, not-true}
 use lib.Dec.{eqb, ltb, leb, lit<}
@@ -20,20 +20,25 @@ use Rattle.message.specs.declared.Record.{Record}
 use Rattle.message.proofs.Fitting.{read-fits}
 use Rattle.store.specs.declared.lines.Line.{Line}
 use Rattle.store.specs.Lines.{lineFrom, lineLimit, lineAt, noLine, lineIn, lineWith, usedLines, withLine, withDead}
-use Rattle.store.specs.Rows.{newRow, reportBytes, summaryBytes, rowLimit, rowWith, rowIn, usedRows, inRow, withRow, withReport, withSummary}
+use Rattle.store.specs.Rows.{newRow, reportBytes, summaryBytes, rowLimit, isOf, noRow, rowWith, rowIn, usedRows, inRow, withRow, withReport, withSummary}
 use Rattle.walk.specs.Figures.{figuresOf}
 use Rattle.store.specs.Changed.{LineFits}
-use Rattle.store.proofs.Slabs.{line-length, dead-length, row-length, line-touches, dead-touches, row-touches, new-row-length, report-length, summary-length}
-use Rattle.walk.proofs.Meaning.{volume-fits}
+use Rattle.store.specs.declared.Found.{Found}
+use Rattle.store.specs.declared.Found.the-variants.{Nothing, At}
+use Rattle.store.specs.declared.rows.Row.{Row}
+use Rattle.walk.specs.declared.Figures.{Figures}
+use Rattle.walk.specs.Meaning.{Are}
+use Rattle.store.proofs.Slabs.{found-below, used-rows-length, row-in, line-length, dead-length, row-length, line-touches, dead-touches, row-touches, new-row-length, report-length, summary-length}
+use Rattle.walk.proofs.Meaning.{figures-are, volume-fits}
 use Rattle.book.specs.declared.counters.Counters.{Counters}
-use Rattle.book.specs.Counting.{usedUp, sound}
+use Rattle.book.specs.Counting.{usedUp, sound, Unsound}
 use Rattle.table.specs.Messages.{isEvent, isTrade, isCancel, isCorrection, isSummary, namesOld, makesNew, oldKey}
-use Rattle.table.specs.Table.{symbolsOf, Case, lowest, inBook, numberTable, contentTable, listTable, rowTable}
-use Rattle.table.specs.Taking.{madeLine, correctedLine, linesBy, rowsBy, placeOf}
+use Rattle.table.specs.Table.{symbolsOf, isFound, listed, says, Case, lowest, inBook, numberTable, contentTable, listTable, rowTable}
+use Rattle.table.specs.Taking.{madeLine, correctedLine, linesBy, rowsBy, indexOf}
 use Rattle.book.specs.Showing.{shownOf, nothingShown}
 use Rattle.book.specs.Calls.{listAnswer, listSaid, listRows, deliverAnswer, deliverSaid, deliverRows, deliverLines, rowAnswer, rowShown}
-use Rattle.table.proofs.Tables.{Wanted, number-content, number-refused, number-taken}
-use Rattle.book.proofs.Sound.{sound-gives}
+use Rattle.table.proofs.Tables.{listed-found, Wanted, number-content, number-refused, number-taken}
+use Rattle.book.proofs.Sound.{sound-gives, sound-exactly}
 
 -- ---- one of a list
 
@@ -105,6 +110,10 @@ module _ (c : Counters) (rows lines : List ℕ) where
         row = λ symbol. told-among (rowAnswer c rows lines symbol) _ refl (in-book-among safe (rowTable (symbolsOf (usedRows rows (c .rows))) symbol));
       }
 
+  -- an answer that is not 0 leaves what was
+  stayed : (a : ℕ) (done kept : List ℕ) → (a ≡ 0 → ⊥) → cond (eqb a 0) done kept ≡ kept
+  stayed a done kept z = rw (ne-eqb a 0 z)
+
   -- what each call leaves when it refuses
   pub record RefusedKeeps : Type 0 where
     pub list : (symbol : List ℕ) (close : ℕ) → (listAnswer c rows lines symbol close ≡ 0 → ⊥)
@@ -163,9 +172,9 @@ module _ (c : Counters) (rows lines : List ℕ) where
   refused-keeps =
       record {
         list = λ symbol close z. let e = ne-eqb (listAnswer c rows lines symbol close) 0 z in (rw e, rw e);
-        deliver = λ n m z. let e = ne-eqb (deliverAnswer c rows lines n m) 0 z in (rw e, rw e);
-        used = λ n m s w f z. used-up n m z (record { sound = s; wanted = w; above = omega (arith, sound-gives c (length rows) (length lines) s .least); below = f });
-        unused = λ n m h. let g : Wanted safe (c .wanted) n → ⊥ = λ w. h (w .sound) (w .wanted) (w .below) in (λ e. g (answer-taken n m e), not-used n m g);
+        deliver = λ n m z. (stayed (deliverAnswer c rows lines n m) _ rows z, stayed (deliverAnswer c rows lines n m) _ lines z);
+        used = λ n m s w f z. used-up n m z (record { sound = s; wanted = w; least = omega (arith, sound-gives c (length rows) (length lines) s .least); greatest = f });
+        unused = λ n m h. let g : Wanted safe (c .wanted) n → ⊥ = λ w. h (w .sound) (w .wanted) (w .greatest) in (λ e. g (answer-taken n m e), not-used n m g);
         row = λ symbol z. rw (ne-eqb (rowAnswer c rows lines symbol) 0 z);
       }
 
@@ -247,17 +256,17 @@ module _ {A : Type 0} (f : List ℕ → A) where
       go false t false x false y = refl
 
   by-rows : (m : List ℕ) (r : Record) (i : ℕ)
-      → (isEvent r ≡ false → f (withSummary m i (r .high) (r .low)) ≡ f m)
+      → (isSummary r ≡ true → f (withSummary m i (r .high) (r .low)) ≡ f m)
       → (isEvent r ≡ false → (w : List ℕ) → f (withReport w i (r .consolidated)) ≡ f w)
       → f (rowsBy m r i) ≡ f m
   unfolding rowsBy
-  by-rows m r i summary report = go (isEvent r) refl (isSummary r)
+  by-rows m r i summary report = go (isEvent r) refl (isSummary r) refl
     where
-      go : (e : Bool) → isEvent r ≡ e → (s : Bool)
+      go : (e : Bool) → isEvent r ≡ e → (s : Bool) → isSummary r ≡ s
           → f (cond e m (cond s (withReport (withSummary m i (r .high) (r .low)) i (r .consolidated)) (withReport m i (r .consolidated)))) ≡ f m
-      go true e s = refl
-      go false e true = report e (withSummary m i (r .high) (r .low)) ∙ summary e
-      go false e false = report e m
+      go true e s t = refl
+      go false e true t = report e (withSummary m i (r .high) (r .low)) ∙ summary t
+      go false e false t = report e m
 
 abbrev byte : ℕ → List ℕ → ℕ
 byte j m = getD m j 0
@@ -279,15 +288,16 @@ lines-by-length m used n r k =
     (λ e. dead-length m k)
     (λ e y. line-length (withDead m k) used (correctedLine (lineIn m k) r))
 
--- a message that is no event may change what its row keeps behind symbol and close
-pub rows-by-keep : (m : List ℕ) (r : Record) (i j : ℕ) → (isEvent r ≡ false → Outside (i * 30 + 12) (i * 30 + 30) j)
+-- a message that is no event may change its row's reported volume, a J also what the row keeps of a J
+pub rows-by-keep : (m : List ℕ) (r : Record) (i j : ℕ)
+    → (isSummary r ≡ true → Outside (i * 30 + 12) (i * 30 + 21) j) → (isEvent r ≡ false → Outside (i * 30 + 21) (i * 30 + 30) j)
     → getD (rowsBy m r i) j 0 ≡ getD m j 0
-rows-by-keep m r i j o =
+rows-by-keep m r i j p o =
     let s : length (summaryBytes (r .high) (r .low)) ≡ 9 = summary-length (r .high) (r .low) in
     let v : length (reportBytes (r .consolidated)) ≡ 9 = report-length (r .consolidated) in
     by-rows (byte j) m r i
-    (λ e. row-outside m i 12 (summaryBytes (r .high) (r .low)) (i * 30 + 12) (i * 30 + 30) j (omega arith) (omega arith) (omega arith) (o e))
-    (λ e w. row-outside w i 21 (reportBytes (r .consolidated)) (i * 30 + 12) (i * 30 + 30) j (omega arith) (omega arith) (omega arith) (o e))
+    (λ e. row-outside m i 12 (summaryBytes (r .high) (r .low)) (i * 30 + 12) (i * 30 + 21) j (omega arith) (omega arith) (omega arith) (p e))
+    (λ e w. row-outside w i 21 (reportBytes (r .consolidated)) (i * 30 + 21) (i * 30 + 30) j (omega arith) (omega arith) (omega arith) (o e))
 
 pub rows-by-length : (m : List ℕ) (r : Record) (i : ℕ) → length (rowsBy m r i) ≡ length m
 rows-by-length m r i =
@@ -298,21 +308,23 @@ rows-by-length m r i =
 -- ---- of the calls
 
 module _ (c : Counters) (rows lines : List ℕ) where
-  -- the place of the first row of the message's symbol
+  -- which row is the first of the message's symbol
   abbrev pub rowNamed : List ℕ → ℕ
-  rowNamed m = placeOf (rowWith (readOf m .found .symbol) (usedRows rows (c .rows)))
+  rowNamed m = indexOf (rowWith (readOf m .found .symbol) (usedRows rows (c .rows)))
 
-  -- the place of the first line that bears the key that the message names
+  -- which line is the first that bears the key that the message names
   abbrev pub lineNamed : List ℕ → ℕ
-  lineNamed m = placeOf (lineWith (oldKey (readOf m .found)) (usedLines lines (c .lines)))
+  lineNamed m = indexOf (lineWith (oldKey (readOf m .found)) (usedLines lines (c .lines)))
 
   -- every byte that a call keeps, and that no room changes its size
   pub record TouchesOnly : Type 0 where
     -- a listing: all but the new row's cell
     pub listing : (symbol : List ℕ) (close j : ℕ) → length symbol ≡ 8 → Outside (c .rows * 30) (c .rows * 30 + 30) j
         → getD (listRows c rows lines symbol close) j 0 ≡ getD rows j 0
-    -- a message, rows: all but what its row keeps behind symbol and close; an event touches none
-    pub inRows : (n : ℕ) (m : List ℕ) (j : ℕ) → (isEvent (readOf m .found) ≡ false → Outside (rowNamed m * 30 + 12) (rowNamed m * 30 + 30) j)
+    -- a message, rows: all but the reported volume of its row and, of a J, what the row keeps of a J; an event touches none
+    pub inRows : (n : ℕ) (m : List ℕ) (j : ℕ)
+        → (isSummary (readOf m .found) ≡ true → Outside (rowNamed m * 30 + 12) (rowNamed m * 30 + 21) j)
+        → (isEvent (readOf m .found) ≡ false → Outside (rowNamed m * 30 + 21) (rowNamed m * 30 + 30) j)
         → getD (deliverRows c rows lines n m) j 0 ≡ getD rows j 0
     -- a message, lines: all but the live mark of the line that X and C name, and the new cell of T and C
     pub inLines : (n : ℕ) (m : List ℕ) (j : ℕ) → Bytes lines → Bytes m
@@ -343,18 +355,91 @@ module _ (c : Counters) (rows lines : List ℕ) where
   touches-only =
       record {
         listing = λ symbol close j l o. by-answer (byte j) (listAnswer c rows lines symbol close) _ rows (λ z. listing-keeps symbol close j l o);
-        inRows = λ n m j o. by-answer (byte j) (deliverAnswer c rows lines n m) _ rows (λ z. rows-by-keep rows (readOf m .found) (rowNamed m) j o);
+        inRows = λ n m j p o. by-answer (byte j) (deliverAnswer c rows lines n m) _ rows (λ z. rows-by-keep rows (readOf m .found) (rowNamed m) j p o);
         inLines = λ n m j bl bm k o. by-answer (byte j) (deliverAnswer c rows lines n m) _ lines (λ z. taking-keeps n m j bl bm k o z);
         listedLength = λ symbol close. by-answer length (listAnswer c rows lines symbol close) _ rows (λ z. row-length rows (c .rows) 0 (newRow symbol close));
         rowsLength = λ n m. by-answer length (deliverAnswer c rows lines n m) _ rows (λ z. rows-by-length rows (readOf m .found) (rowNamed m));
         linesLength = λ n m. by-answer length (deliverAnswer c rows lines n m) _ lines (λ z. lines-by-length lines (c .lines) (c .wanted) (readOf m .found) (lineNamed m));
       }
 
-  -- no row shows a volume of more than 65,536 sizes
+  -- no row shows a volume above 65,536 times the greatest size
   pub volume-shown : (symbol : List ℕ) → Bytes lines → rowShown c rows lines symbol .row .volume ≤ 65536 * 4294967295
   unfolding rowShown shownOf
   volume-shown symbol b = go (eqb (rowAnswer c rows lines symbol) 0)
     where
-      go : (t : Bool) → cond t (shownOf (rowIn rows (placeOf (rowWith symbol (usedRows rows (c .rows))))) (figuresOf symbol (usedLines lines (c .lines)))) nothingShown .volume ≤ 65536 * 4294967295
+      go : (t : Bool) → cond t (shownOf (rowIn rows (indexOf (rowWith symbol (usedRows rows (c .rows))))) (figuresOf symbol (usedLines lines (c .lines)))) nothingShown .volume ≤ 65536 * 4294967295
       go true = volume-fits lines symbol (c .lines) b
       go false = omega arith
+
+-- ---- 17, and the lowest number that applies
+
+-- 17 is given exactly where a book is unsound, if the table itself does not give it
+seventeen : (b : Bool) (cases : List Case) → (lowest cases ≡ 17 → ⊥) → (inBook b cases ≡ 17) ↔ (b ≡ false)
+seventeen true cases h = (λ e. absurd (h e), λ e. absurd (true≢false e))
+seventeen false cases h = (λ e. refl, λ e. refl)
+
+not-17 : (cases : List Case) → each (λ k. not (eqb k 17)) (numbersOf cases) ≡ true → lowest cases ≡ 17 → ⊥
+not-17 cases h e =
+    let f = each-among (λ k. not (eqb k 17)) (0 ∷ numbersOf cases) h (lowest cases) (lowest-among cases) in
+    true≢false (sym (rw e at f))
+
+module _ (c : Counters) (rows lines : List ℕ) where
+  -- a call answers 17 exactly if the book is unsound
+  pub record UnsoundFirst : Type 0 where
+    pub list : (symbol : List ℕ) (close : ℕ) → (listAnswer c rows lines symbol close ≡ 17) ↔ Unsound c (length rows) (length lines)
+    pub deliver : (n : ℕ) (m : List ℕ) → (deliverAnswer c rows lines n m ≡ 17) ↔ Unsound c (length rows) (length lines)
+    pub row : (symbol : List ℕ) → (rowAnswer c rows lines symbol ≡ 17) ↔ Unsound c (length rows) (length lines)
+
+  then-unsound : (cases : List Case) → each (λ k. not (eqb k 17)) (numbersOf cases) ≡ true
+      → (inBook (safe c rows lines) cases ≡ 17) ↔ Unsound c (length rows) (length lines)
+  then-unsound cases h =
+      let s = seventeen (safe c rows lines) cases (not-17 cases h) in
+      let u = sound-exactly c (length rows) (length lines) in
+      (λ e. u .0 (s .0 e), λ e. s .1 (u .1 e))
+
+  pub unsound-first : UnsoundFirst
+  unfolding listAnswer listTable deliverAnswer numberTable contentTable rowAnswer
+  unsound-first =
+      record {
+        list = λ symbol close. then-unsound (listCases c rows lines symbol close) refl;
+        deliver = λ n m. then-unsound (numberTable (c .wanted) n ++ contents c rows lines m) refl;
+        row = λ symbol. then-unsound (rowTable (symbolsOf (usedRows rows (c .rows))) symbol) refl;
+      }
+
+-- ---- a row as it is read
+
+-- the first used row of the symbol, and the figures that its symbol's live lines mean
+pub record RowReads (c : Counters) (rows lines symbol : List ℕ) : Type 0 where
+  pub row : Row
+  pub first : (i : ℕ) × (rowWith symbol (usedRows rows (c .rows)) ≡ At i) × (row ≡ getD (usedRows rows (c .rows)) i noRow)
+  pub figures : Figures
+  pub mean : Are symbol (usedLines lines (c .lines)) figures
+  pub shown : rowShown c rows lines symbol .row ≡ shownOf row figures
+
+pub row-reads : (c : Counters) (rows lines symbol : List ℕ) → rowAnswer c rows lines symbol ≡ 0 → RowReads c rows lines symbol
+unfolding rowShown rowAnswer
+row-reads c rows lines symbol z = go (rowWith symbol there) refl (listed-there safe-now (listed symbol (symbolsOf there)) z)
+  where
+    there : List Row
+    there = usedRows rows (c .rows)
+
+    safe-now : Bool
+    safe-now = sound c (length rows) (length lines)
+
+    listed-there : (b l : Bool) → inBook b (says 7 (not l) ∷ []) ≡ 0 → l ≡ true
+    listed-there true true e = refl
+    listed-there true false e = absurd (omega arith)
+    listed-there false l e = absurd (omega arith)
+
+    go : (f : Found) → rowWith symbol there ≡ f → listed symbol (symbolsOf there) ≡ true → RowReads c rows lines symbol
+    go Nothing e l = absurd (true≢false (sym l ∙ sym (listed-found symbol there) ∙ ap isFound e))
+    go (At i) e l =
+        let b : i < length there = found-below (isOf symbol) there i e in
+        let k : getD there i noRow ≡ rowIn rows i = row-in rows (c .rows) i (omega (arith, used-rows-length rows (c .rows))) in
+        record {
+          row = getD there i noRow;
+          first = (i, e, refl);
+          figures = figuresOf symbol (usedLines lines (c .lines));
+          mean = figures-are symbol (usedLines lines (c .lines));
+          shown = rw (z, e) (ap (λ (w : Row). shownOf w (figuresOf symbol (usedLines lines (c .lines)))) (sym k));
+        }

@@ -22,16 +22,16 @@ use Rattle.store.specs.Rows.{usedRows, rowLimit, rowWith, rowIn, withRow}
 use Rattle.walk.specs.Figures.{figuresOf}
 use Rattle.book.specs.declared.counters.Counters.{Counters}
 use Rattle.book.specs.declared.Said.{Said}
-use Rattle.book.specs.declared.Placed.{Placed}
+use Rattle.book.specs.declared.Located.{Located}
 use Rattle.book.specs.declared.Shown.{Shown}
 use Rattle.book.specs.declared.show.RowShown.{RowShown}
 use Rattle.table.specs.declared.judge.Verdict.{Verdict}
 use Rattle.book.specs.Counting.{usedUp, oneRowMore, takenBy, sound}
 use Rattle.table.specs.Messages.{isEvent, isTrade, isCancel, isCorrection, namesOld, oldKey}
 use Rattle.table.specs.Table.{Case, symbolsOf, inBook, isFound, listed, listTable, contentTable, numberTable}
-use Rattle.table.specs.Taking.{linesBy, rowsBy, placeOf}
+use Rattle.table.specs.Taking.{linesBy, rowsBy, indexOf}
 use Rattle.book.specs.Showing.{shownOf, nothingShown}
-use Rattle.book.specs.Calls.{numberAnswer, placed, listAnswer, listSaid, listRows, deliverAnswer, deliverSaid, deliverRows, deliverLines, rowAnswer, rowShown}
+use Rattle.book.specs.Calls.{numberAnswer, located, listAnswer, listSaid, listRows, deliverAnswer, deliverSaid, deliverRows, deliverLines, rowAnswer, rowShown}
 use Rattle.table.specs.Working.{judgedBy}
 use Rattle.book.proofs.Sound.{sound-gives}
 use Rattle.table.proofs.Tables.{listed-found, rows-full, judged-is, judged-row, judged-line, read-plain, Wanted, number-wanted, number-content, number-refused}
@@ -165,7 +165,7 @@ module _ (c : Counters) (rows lines : List ℕ) where
       unfolding deliverSaid
       refused-said k e =
           said-is (deliverSaid c rows lines (c .wanted) m) (v .answer) k answer-is
-          (e ∙ sym (refused-keeps c rows lines .used (c .wanted) m (w .sound) refl (w .below) (λ p. z (number-is ∙ p))))
+          (e ∙ sym (refused-keeps c rows lines .used (c .wanted) m (w .sound) refl (w .greatest) (λ p. z (number-is ∙ p))))
 
       pub refused-rows : rows ≡ deliverRows c rows lines (c .wanted) m
       refused-rows = sym (refused-keeps c rows lines .deliver (c .wanted) m (λ p. z (number-is ∙ p)) .0)
@@ -185,12 +185,12 @@ module _ (c : Counters) (rows lines : List ℕ) where
       taken-said k e = rw given-none (ap (λ (x : Counters). record { answer = answerOf 0; counters = x }) (e ∙ ap (λ (x : Reading). takenBy (x .found) c) f))
 
       -- the row acted on is the first of the symbol
-      row-is : rowsBy rows (readOf m .found) (it .row) ≡ rowsBy rows (readOf m .found) (placeOf (rowWith (readOf m .found .symbol) (usedRows rows (c .rows))))
+      row-is : rowsBy rows (readOf m .found) (it .row) ≡ rowsBy rows (readOf m .found) (indexOf (rowWith (readOf m .found .symbol) (usedRows rows (c .rows))))
       unfolding rowsBy
       row-is = go (isEvent (readOf m .found)) refl
         where
           go : (t : Bool) → isEvent (readOf m .found) ≡ t
-              → rowsBy rows (readOf m .found) (it .row) ≡ rowsBy rows (readOf m .found) (placeOf (rowWith (readOf m .found .symbol) (usedRows rows (c .rows))))
+              → rowsBy rows (readOf m .found) (it .row) ≡ rowsBy rows (readOf m .found) (indexOf (rowWith (readOf m .found .symbol) (usedRows rows (c .rows))))
           go true t = rw t
           go false t = rw (judged-row (c .phase) (usedRows rows (c .rows)) (usedLines lines (c .lines)) (lineLimit (length lines)) (readOf m) z-it t)
 
@@ -205,13 +205,13 @@ module _ (c : Counters) (rows lines : List ℕ) where
 
       -- the line acted on is the first that bears the named key; where none is named, none is asked for
       line-is : linesBy lines (c .lines) (c .wanted) (readOf m .found) (it .line)
-          ≡ linesBy lines (c .lines) (c .wanted) (readOf m .found) (placeOf (lineWith (oldKey (readOf m .found)) (usedLines lines (c .lines))))
+          ≡ linesBy lines (c .lines) (c .wanted) (readOf m .found) (indexOf (lineWith (oldKey (readOf m .found)) (usedLines lines (c .lines))))
       unfolding linesBy
       line-is = go (namesOld (readOf m .found)) refl
         where
           go : (t : Bool) → namesOld (readOf m .found) ≡ t
               → linesBy lines (c .lines) (c .wanted) (readOf m .found) (it .line)
-              ≡ linesBy lines (c .lines) (c .wanted) (readOf m .found) (placeOf (lineWith (oldKey (readOf m .found)) (usedLines lines (c .lines))))
+              ≡ linesBy lines (c .lines) (c .wanted) (readOf m .found) (indexOf (lineWith (oldKey (readOf m .found)) (usedLines lines (c .lines))))
           go true t = rw (judged-line (c .phase) (usedRows rows (c .rows)) (usedLines lines (c .lines)) (lineLimit (length lines)) (readOf m) z-it t)
           go false t = let n = neither (isCancel (readOf m .found)) (isCorrection (readOf m .found)) t in rw (n .0, n .1)
 
@@ -270,7 +270,7 @@ module _ (c : Counters) (rows lines : List ℕ) where
     unfolding deliverSaid
     early-said z =
         let h : early ≡ 0 → ⊥ = λ p. z (ap numberOf (e ∙ ap answerOf p)) in
-        let u = refused-keeps c rows lines .unused n m (λ s w f. h (wanted-early (record { sound = s; wanted = w; above = omega (arith, sound-gives c (length rows) (length lines) s .least); below = f }))) in
+        let u = refused-keeps c rows lines .unused n m (λ s w f. h (wanted-early (record { sound = s; wanted = w; least = omega (arith, sound-gives c (length rows) (length lines) s .least); greatest = f }))) in
         let k = refused-keeps c rows lines .deliver n m (u .0) in
         let g = early-answer (λ w. h (wanted-early w)) in
         (said-is (deliverSaid c rows lines n m) a c (e ∙ ap answerOf (sym g)) (sym (u .1)), (sym (k .0), sym (k .1)))
@@ -281,38 +281,38 @@ module _ (c : Counters) (rows lines : List ℕ) where
     abbrev listedRows : List Row
     listedRows = usedRows rows (c .rows)
 
-    pub place-unsound : safe ≡ false → record { answer = answerOf 17; row = 0 } ≡ placed c rows lines symbol
-    unfolding placed rowAnswer
-    place-unsound s = rw s
+    pub locate-unsound : safe ≡ false → record { answer = answerOf 17; row = 0 } ≡ located c rows lines symbol
+    unfolding located rowAnswer
+    locate-unsound s = rw s
 
-    pub place-none : safe ≡ true → rowWith symbol listedRows ≡ Nothing → record { answer = answerOf 7; row = 0 } ≡ placed c rows lines symbol
-    unfolding placed rowAnswer
-    place-none s f =
+    pub locate-none : safe ≡ true → rowWith symbol listedRows ≡ Nothing → record { answer = answerOf 7; row = 0 } ≡ located c rows lines symbol
+    unfolding located rowAnswer
+    locate-none s f =
         let l : listed symbol (symbolsOf listedRows) ≡ false = sym (listed-found symbol listedRows) ∙ ap isFound f in
         rw (s, l)
 
-    pub place-there : (i : ℕ) → safe ≡ true → rowWith symbol listedRows ≡ At i → record { answer = answerOf 0; row = i } ≡ placed c rows lines symbol
-    unfolding placed rowAnswer
-    place-there i s f =
+    pub locate-there : (i : ℕ) → safe ≡ true → rowWith symbol listedRows ≡ At i → record { answer = answerOf 0; row = i } ≡ located c rows lines symbol
+    unfolding located rowAnswer
+    locate-there i s f =
         let l : listed symbol (symbolsOf listedRows) ≡ true = sym (listed-found symbol listedRows) ∙ ap isFound f in
         rw (s, l, f)
 
     -- ---- a row read
 
-    module _ (p : Placed) (e : p ≡ placed c rows lines symbol) where
+    module _ (p : Located) (e : p ≡ located c rows lines symbol) where
       row-number : numberOf (p .answer) ≡ rowAnswer c rows lines symbol
-      unfolding placed rowShown
-      row-number = ap (λ (x : Placed). numberOf (x .answer)) e ∙ answers-listed c rows lines .row symbol .1
+      unfolding located rowShown
+      row-number = ap (λ (x : Located). numberOf (x .answer)) e ∙ answers-listed c rows lines .row symbol .1
 
-      placed-row : rowAnswer c rows lines symbol ≡ 0 → placed c rows lines symbol .row ≡ placeOf (rowWith symbol listedRows)
-      unfolding placed
-      placed-row n = rw n
+      located-row : rowAnswer c rows lines symbol ≡ 0 → located c rows lines symbol .row ≡ indexOf (rowWith symbol listedRows)
+      unfolding located
+      located-row n = rw n
 
       pub row-refused : (numberOf (p .answer) ≡ 0 → ⊥) → (x : RowShown) → x ≡ nothingShown
           → record { answer = p .answer; row = x } ≡ rowShown c rows lines symbol
-      unfolding placed rowShown
+      unfolding located rowShown
       row-refused z x f =
-          shown-is (rowShown c rows lines symbol) (p .answer) x (ap (λ (y : Placed). y .answer) e)
+          shown-is (rowShown c rows lines symbol) (p .answer) x (ap (λ (y : Located). y .answer) e)
           (f ∙ sym (refused-keeps c rows lines .row symbol (λ q. z (row-number ∙ q))))
 
       pub row-there : numberOf (p .answer) ≡ 0 → (x : RowShown) (kept : Row) (figures : Figures)
@@ -321,5 +321,5 @@ module _ (c : Counters) (rows lines : List ℕ) where
       unfolding rowShown
       row-there z x kept figures k g f =
           let n : rowAnswer c rows lines symbol ≡ 0 = sym row-number ∙ z in
-          let i : p .row ≡ placeOf (rowWith symbol listedRows) = ap (λ (y : Placed). y .row) e ∙ placed-row n in
-          rw n (ap (λ (y : RowShown). record { answer = answerOf 0; row = y }) (f ∙ ap (λ (y : Row). shownOf y figures) (k ∙ ap (rowIn rows) i) ∙ ap (shownOf (rowIn rows (placeOf (rowWith symbol listedRows)))) g))
+          let i : p .row ≡ indexOf (rowWith symbol listedRows) = ap (λ (y : Located). y .row) e ∙ located-row n in
+          rw n (ap (λ (y : RowShown). record { answer = answerOf 0; row = y }) (f ∙ ap (λ (y : Row). shownOf y figures) (k ∙ ap (rowIn rows) i) ∙ ap (shownOf (rowIn rows (indexOf (rowWith symbol listedRows)))) g))

@@ -13,12 +13,12 @@ use Rattle.store.specs.Rows.{usedRows, rowLimit, rowWith, rowIn, withRow}
 use Rattle.walk.specs.Figures.{figuresOf}
 use Rattle.book.specs.declared.counters.Counters.{Counters}
 use Rattle.book.specs.declared.Said.{Said}
-use Rattle.book.specs.declared.Placed.{Placed}
+use Rattle.book.specs.declared.Located.{Located}
 use Rattle.book.specs.declared.Shown.{Shown}
 use Rattle.book.specs.Counting.{usedUp, oneRowMore, takenBy, sound}
 use Rattle.table.specs.Messages.{oldKey}
 use Rattle.table.specs.Table.{symbolsOf, inBook, numberTable, contentTable, listTable, rowTable}
-use Rattle.table.specs.Taking.{linesBy, rowsBy, placeOf}
+use Rattle.table.specs.Taking.{linesBy, rowsBy, indexOf}
 use Rattle.book.specs.Showing.{shownOf, nothingShown}
 
 abbrev pub said : ℕ → Counters → Said
@@ -31,10 +31,10 @@ module _ (c : Counters) (rows lines : List ℕ) where
   listAnswer symbol close =
       inBook (sound c (length rows) (length lines)) (listTable (c .wanted) (symbolsOf (usedRows rows (c .rows))) (rowLimit (length rows)) symbol close)
 
-  -- a row added at the end, or nothing
   unfoldable pub listSaid : List ℕ → ℕ → Said
   listSaid symbol close = said (listAnswer symbol close) (cond (eqb (listAnswer symbol close) 0) (oneRowMore c) c)
 
+  -- a row added at the end, or nothing
   unfoldable pub listRows : List ℕ → ℕ → List ℕ
   listRows symbol close = cond (eqb (listAnswer symbol close) 0) (withRow rows (c .rows) symbol close) rows
 
@@ -53,12 +53,12 @@ module _ (c : Counters) (rows lines : List ℕ) where
   abbrev pub countersAfter : ℕ → Reading → Counters
   countersAfter a q = cond (eqb a 0) (takenBy (q .found) c) (cond (leb 4 a && leb a 12) (usedUp c) c)
 
-  -- line k is the one that the message names, row i the first of its symbol
+  -- acting on the first line that bears the named key, and on the first row of the symbol
   abbrev pub linesTaken : Reading → List ℕ
-  linesTaken q = linesBy lines (c .lines) (c .wanted) (q .found) (placeOf (lineWith (oldKey (q .found)) (usedLines lines (c .lines))))
+  linesTaken q = linesBy lines (c .lines) (c .wanted) (q .found) (indexOf (lineWith (oldKey (q .found)) (usedLines lines (c .lines))))
 
   abbrev pub rowsTaken : Reading → List ℕ
-  rowsTaken q = rowsBy rows (q .found) (placeOf (rowWith (q .found .symbol) (usedRows rows (c .rows))))
+  rowsTaken q = rowsBy rows (q .found) (indexOf (rowWith (q .found .symbol) (usedRows rows (c .rows))))
 
   unfoldable pub deliverSaid : ℕ → List ℕ → Said
   deliverSaid n m = said (deliverAnswer n m) (countersAfter (deliverAnswer n m) (readOf m))
@@ -74,10 +74,10 @@ module _ (c : Counters) (rows lines : List ℕ) where
   unfoldable pub rowAnswer : List ℕ → ℕ
   rowAnswer symbol = inBook (sound c (length rows) (length lines)) (rowTable (symbolsOf (usedRows rows (c .rows))) symbol)
 
-  -- where the row is, 0 where there is none
-  unfoldable pub placed : List ℕ → Placed
-  placed symbol =
-      record { answer = answerOf (rowAnswer symbol); row = cond (eqb (rowAnswer symbol) 0) (placeOf (rowWith symbol (usedRows rows (c .rows)))) 0 }
+  -- where the row is; 0, and unread, where it is refused
+  unfoldable pub located : List ℕ → Located
+  located symbol =
+      record { answer = answerOf (rowAnswer symbol); row = cond (eqb (rowAnswer symbol) 0) (indexOf (rowWith symbol (usedRows rows (c .rows)))) 0 }
 
   unfoldable pub rowShown : List ℕ → Shown
   rowShown symbol =
@@ -85,6 +85,6 @@ module _ (c : Counters) (rows lines : List ℕ) where
         answer = answerOf (rowAnswer symbol);
         row =
             cond (eqb (rowAnswer symbol) 0)
-            (shownOf (rowIn rows (placeOf (rowWith symbol (usedRows rows (c .rows))))) (figuresOf symbol (usedLines lines (c .lines))))
+            (shownOf (rowIn rows (indexOf (rowWith symbol (usedRows rows (c .rows))))) (figuresOf symbol (usedLines lines (c .lines))))
             nothingShown;
       }

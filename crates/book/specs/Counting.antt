@@ -11,7 +11,7 @@ use Rattle.store.specs.Lines.{lineLimit}
 use Rattle.store.specs.Rows.{rowLimit}
 use Rattle.book.specs.declared.counters.Counters.{Counters}
 
--- a fresh book wants 1 and has no rows, lines, phase or taken messages
+-- what a book starts from
 abbrev pub freshCounters : Counters
 freshCounters = record { wanted = 1; phase = 0; rows = 0; lines = 0; taken = 0 }
 
@@ -41,8 +41,8 @@ takenBy r c =
 
 -- ---- soundness, for room of that many bytes for rows and for lines
 
--- a book is unsound exactly if one of these holds: its wanted number is outside 1 to 4,294,967,296; it claims more rows,
--- or more lines, than their limits; its phase is not one of the seven; its taken count exceeds the wanted number less one
+-- the faults of a book, one by one: the wanted number outside 1 to 4,294,967,296, too many rows, too many lines, a phase that is
+-- none of the seven, more messages taken than numbers used up
 abbrev pub Unsound : Counters → ℕ → ℕ → Type 0
 Unsound c rows lines =
     ((c .wanted < 1) ⊎ (4294967296 < c .wanted)) ⊎ ((rowLimit rows < c .rows) ⊎ ((lineLimit lines < c .lines) ⊎ ((6 < c .phase) ⊎ (c .wanted - 1 < c .taken))))

@@ -12,7 +12,7 @@ use Rattle.store.specs.declared.rows.Reported.the-variants.{NotSet}
 use Rattle.walk.specs.declared.Price.{Price}
 use Rattle.walk.specs.declared.Price.the-variants.{Absent, Of}
 use Rattle.walk.specs.declared.Last.{Last}
-use Rattle.walk.specs.declared.Last.the-variants.{NoLast, Sale}
+use Rattle.walk.specs.declared.Last.the-variants.{NoLast, Trade}
 use Rattle.walk.specs.declared.Figures.{Figures}
 use Rattle.book.specs.declared.show.Net.{Net}
 use Rattle.book.specs.declared.show.Net.the-variants.{NoNet, Amount}
@@ -21,7 +21,7 @@ use Rattle.book.specs.declared.show.RowShown.{RowShown}
 -- last is the price of the newest trade that may be the last
 abbrev pub lastOf : Last → Price
 lastOf NoLast = Absent
-lastOf (Sale place price) = Of price
+lastOf (Trade place price) = Of price
 
 -- net change is last minus close; absent if there is no last or the close is 0
 abbrev pub netOf : Price → ℕ → Net

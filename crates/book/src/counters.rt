@@ -7,7 +7,7 @@ use table::judge::phase_of;
 ghost use mathlib.Core.Path.{_≡_};
 ghost use Prim.Native.Nat.{_+_, _<_, _^_};
 ghost use Rattle.message.specs.Answers.{answerOf};
-ghost use Rattle.book.specs.Counting.{freshCounters, usedUp, advanced, countedTaken, oneRowMore, oneLineMore, takenBy, sound};
+ghost use Rattle.book.specs.Counting.{usedUp, advanced, countedTaken, oneRowMore, oneLineMore, takenBy, sound};
 ghost use Rattle.table.specs.Table.{lowest, numberTable};
 
 // What moves together: the wanted number, the phase and the counts. The phase is 0 before any event was taken, then
@@ -26,7 +26,7 @@ const LAST_NUMBER: u64 = 4294967295;
 impl Counters {
     // A number used up, all else equal.
     pub(crate) fn use_up(mut self) -> Counters
-        requires { ⌜ self .wanted + 1 < 2 ^ 64 ⌝ }
+        requires { ⌜ self .wanted < 2 ^ 63 ⌝ }
         ensures { λ r. ⌜ r ≡ usedUp self ⌝ }
     {
         self.wanted += 1;
@@ -66,7 +66,7 @@ impl Counters {
 
     // A message taken: its number used up and it counted; an event is the new phase, and T and C use a line.
     pub(crate) fn take(self, r: Record) -> Counters
-        requires { ⌜ (self .wanted + 1 < 2 ^ 64) × (self .taken + 1 < 2 ^ 64) × (self .lines + 1 < 2 ^ 64) ⌝ }
+        requires { ⌜ (self .wanted < 2 ^ 63) × (self .taken + 1 < 2 ^ 64) × (self .lines + 1 < 2 ^ 64) ⌝ }
         ensures { λ o. ⌜ o ≡ takenBy r self ⌝ }
     {
         let up = self.use_up().count_taken();

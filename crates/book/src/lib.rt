@@ -16,7 +16,7 @@ ghost use mathlib.Core.Path.{_≡_};
 ghost use lib.ListN.{length};
 ghost use Rattle.message.specs.Answers.{answerOf};
 ghost use Rattle.book.specs.Counting.{freshCounters};
-ghost use Rattle.book.specs.Calls.{numberAnswer, listAnswer, listSaid, listRows, deliverSaid, deliverRows, deliverLines, placed, rowShown};
+ghost use Rattle.book.specs.Calls.{numberAnswer, listAnswer, listSaid, listRows, deliverSaid, deliverRows, deliverLines, located, rowShown};
 
 // What a listing or a message is told, and the counters after it.
 pub struct Said {
@@ -30,8 +30,8 @@ pub struct Shown {
     pub row: RowShown,
 }
 
-// Where a row is, if it is listed.
-struct Placed {
+// Which row of the room a symbol is, if it is listed.
+struct Located {
     answer: Answer,
     row: usize,
 }
@@ -147,27 +147,27 @@ pub fn deliver(c: Counters, rows: &mut [u8], lines: &mut [u8], number: u64, mess
     use_number(c, rows, lines, message)
 }
 
-// 17, 7, or the place of the row of a symbol.
-fn find_row(c: Counters, rows: &[u8], lines: &[u8], symbol: [u8; 8]) -> Placed
-    ensures { λ p. ⌜ p ≡ placed c (now (rows .entry)) (now (lines .entry)) symbol ⌝ }
+// 17, 7, or which row the symbol is.
+fn find_row(c: Counters, rows: &[u8], lines: &[u8], symbol: [u8; 8]) -> Located
+    ensures { λ p. ⌜ p ≡ located c (now (rows .entry)) (now (lines .entry)) symbol ⌝ }
 {
     if c.is_sound(rows.len(), lines.len()) {
         match rows::find(rows, c.rows, symbol) {
             Found::Nothing => {
-                Placed {
+                Located {
                     answer: Answer::NotListed,
                     row: 0,
                 }
             }
             Found::At(i) => {
-                Placed {
+                Located {
                     answer: Answer::Done,
                     row: i,
                 }
             }
         }
     } else {
-        Placed {
+        Located {
             answer: Answer::Unsound,
             row: 0,
         }

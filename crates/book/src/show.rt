@@ -32,7 +32,7 @@ fn last_of(l: Last) -> Price
 {
     match l {
         Last::NoLast => Price::Absent,
-        Last::Sale(place, price) => Price::Of(price),
+        Last::Trade(place, price) => Price::Of(price),
     }
 }
 

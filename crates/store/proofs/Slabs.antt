@@ -24,7 +24,7 @@ use Rattle.store.specs.declared.rows.Reported.the-variants.{Volume}
 use Rattle.store.specs.Search.{first}
 use Rattle.store.specs.Lines.{lineFrom, lineBytes, mark, lineAt, lineLimit, usedLines, noLine, lineIn, withLine, withDead}
 use Rattle.store.specs.Rows.{summaryAt, reportedAt, rowFrom, newRow, reportBytes, summaryBytes, rowAt, rowLimit, usedRows, noRow, rowIn, inRow, withRow, withReport, withSummary}
-use Rattle.store.specs.Changed.{dead, LineFits, listed, reporting, summarised}
+use Rattle.store.specs.Changed.{dead, LineFits, listedRow, reporting, summarised}
 
 -- ---- what a search finds
 
@@ -405,7 +405,7 @@ row-local m w at h =
     (reported-agree m w at (λ j a b. h j (omega arith) (omega arith)))
 
 -- a new row is read as it was listed
-row-back : (w rest symbol : List ℕ) (at close : ℕ) → length symbol ≡ 8 → close < 2 ^ 32 → drop at w ≡ newRow symbol close ++ rest → rowFrom w at ≡ listed symbol close
+row-back : (w rest symbol : List ℕ) (at close : ℕ) → length symbol ≡ 8 → close < 2 ^ 32 → drop at w ≡ newRow symbol close ++ rest → rowFrom w at ≡ listedRow symbol close
 unfolding rowFrom newRow summaryAt reportedAt
 row-back w rest symbol at close l h d =
     let zeros = replicate 9 0 ++ rest in
@@ -510,7 +510,7 @@ module _ (m : List ℕ) (k from : ℕ) (bytes : List ℕ) (fits : from + length 
 
 -- a row stored behind the used ones
 pub rows-put : (m symbol : List ℕ) (n close : ℕ) → length symbol ≡ 8 → close < 2 ^ 32 → n < rowLimit (length m)
-    → usedRows (withRow m n symbol close) (suc n) ≡ usedRows m n ++ (listed symbol close ∷ [])
+    → usedRows (withRow m n symbol close) (suc n) ≡ usedRows m n ++ (listedRow symbol close ∷ [])
 unfolding usedRows
 rows-put m symbol n close l c h =
     let e : length (newRow symbol close) ≡ 30 = new-row-length symbol close l in
@@ -518,7 +518,7 @@ rows-put m symbol n close l c h =
     let bytes = newRow symbol close in
     let rest = drop (n * 30 + length bytes) m in
     let d : drop (n * 30) w ≡ bytes ++ rest = rw add-zero at (in-found m n 0 bytes (omega arith) h) in
-    used-add rowFrom 30 rowLimit row-local m w n (row-length m n 0 bytes) (in-kept m n 0 bytes (omega arith)) (listed symbol close) h
+    used-add rowFrom 30 rowLimit row-local m w n (row-length m n 0 bytes) (in-kept m n 0 bytes (omega arith)) (listedRow symbol close) h
     (row-back w rest symbol (n * 30) close l c d)
 
 -- a used row's volume reported

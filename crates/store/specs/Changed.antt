@@ -1,4 +1,4 @@
--- What a line or a row becomes when it is listed or changed, and what the struct type says of a line.
+-- What a line and a row become when a call changes them, a row as it is first listed, and what the struct type says of a line.
 -- Assumes nothing.
 use Prim.Native.Nat.{ℕ, _^_, _<_}
 use mathlib.Core.Path.{_≡_}
@@ -38,9 +38,9 @@ pub record LineFits (l : Line) : Type 0 where
 
 -- ---- a row
 
--- a row as it is listed: no J yet, nothing reported
-abbrev pub listed : List ℕ → ℕ → Row
-listed symbol close = record { symbol = symbol; close = close; summary = NoSummary; reported = NotSet }
+-- a row as it is first listed: no J yet, nothing reported
+abbrev pub listedRow : List ℕ → ℕ → Row
+listedRow symbol close = record { symbol = symbol; close = close; summary = NoSummary; reported = NotSet }
 
 -- the same row with that consolidated volume reported last
 abbrev pub reporting : ℕ → Row → Row

@@ -1,5 +1,5 @@
--- Lines in lent bytes. A line is one trade: key (centre and control), symbol, price, size, condition, place, time,
--- live or dead. Line i is the 40 bytes from i * 40 on, numbers big-endian; any contents are read as they stand.
+-- Lines in lent bytes: a cell of 40 bytes for each trade, line i from i * 40 on, numbers big-endian. A key is the centre and
+-- the control. Whatever stands in a cell is a line.
 -- Assumes nothing.
 use Prim.Native.Nat.{ℕ, _+_, _*_, _/_, min}
 use mathlib.Core.List.{List, [], _∷_, _++_}
@@ -46,7 +46,7 @@ lineAt m i = lineFrom m (i * 40)
 abbrev pub lineLimit : ℕ → ℕ
 lineLimit room = min 65536 (room / 40)
 
--- the used lines, in the order added
+-- the used lines, in the order added; a count above the limit is cut off there
 unfoldable pub usedLines : List ℕ → ℕ → List Line
 usedLines m used = tab (lineAt m) 0 (min used (lineLimit (length m)))
 
@@ -71,6 +71,7 @@ noLine =
       live = false;
     }
 
+-- line i of the room
 unfoldable pub lineIn : List ℕ → ℕ → Line
 lineIn m i = cond (ltb i (lineLimit (length m))) (lineAt m i) noLine
 

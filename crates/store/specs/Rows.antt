@@ -1,9 +1,8 @@
--- Rows in lent bytes. A row is one listed symbol with its adjusted previous close, what the latest taken J said, and the
--- consolidated volume reported last. Row i is the 30 bytes from i * 30 on, numbers big-endian; any contents are read as
--- they stand.
+-- Rows in lent bytes: a cell of 30 bytes for each listed symbol, row i from i * 30 on, numbers big-endian. It keeps the close, what
+-- the latest J said and the volume that was reported last. Whatever stands in a cell is a row.
 -- Assumes nothing.
 use Prim.Native.Nat.{ℕ, _+_, _*_, _/_, min}
-use mathlib.Core.List.{List, [], _∷_, _++_}
+use mathlib.Core.List.{List, _∷_, _++_}
 use mathlib.Core.Bool.{Bool, cond}
 use lib.ListN.{length, getD, replicate}
 use lib.Seq.{sets}
@@ -58,7 +57,7 @@ rowAt m i = rowFrom m (i * 30)
 abbrev pub rowLimit : ℕ → ℕ
 rowLimit room = min 256 (room / 30)
 
--- the used rows, in the order listed
+-- the used rows, in the order listed; a count above the limit is cut off there
 unfoldable pub usedRows : List ℕ → ℕ → List Row
 usedRows m used = tab (rowAt m) 0 (min used (rowLimit (length m)))
 
@@ -73,10 +72,11 @@ rowWith symbol rs = first (isOf symbol) rs 0
 abbrev pub noRow : Row
 noRow = record { symbol = replicate 8 0; close = 0; summary = NoSummary; reported = NotSet }
 
+-- row i of the room
 unfoldable pub rowIn : List ℕ → ℕ → Row
 rowIn m i = cond (ltb i (rowLimit (length m))) (rowAt m i) noRow
 
--- ---- a room changed: bytes stored from a place of row i on; no cell, no change
+-- ---- a room changed: bytes stored from an offset of row i on; no cell, no change
 
 unfoldable pub inRow : List ℕ → ℕ → ℕ → List ℕ → List ℕ
 inRow m i from bytes = cond (ltb i (rowLimit (length m))) (sets m (i * 30 + from) bytes) m

@@ -1,5 +1,5 @@
 // Rows and lines in lent bytes: fixed cells of bytes, numbers big-endian. A room is as many whole cells as its bytes
-// hold, at most its cap; bytes past the last whole cell are never touched. Whatever stands in a cell is read as it stands.
+// hold, at most its cap; bytes past the last of these cells are never touched. Whatever stands in a cell is read as it stands.
 pub mod lines;
 pub mod rows;
 
@@ -12,7 +12,7 @@ pub enum Found {
     At(usize),
 }
 
-// The lesser of two counts.
+// How much of what is claimed is there: the lesser of two counts.
 pub fn lesser(a: usize, b: usize) -> usize
     ensures { λ r. ⌜ r ≡ min a b ⌝ }
 {

@@ -86,7 +86,7 @@ fn no_line() -> Line
     }
 }
 
-// The line whose cell starts at a place.
+// The line whose cell starts at an offset.
 fn read(lines: &[u8], at: usize) -> Line
     requires { ⌜ at + 40 ≤ length (now lines) ⌝ }
     ensures { λ r. ⌜ r ≡ lineFrom (now (lines .entry)) at ⌝ }
@@ -126,7 +126,7 @@ fn mark_of(live: bool) -> u8
     if live { 1 } else { 0 }
 }
 
-// Stores a line in the cell that starts at a place.
+// Stores a line in the cell that starts at an offset.
 fn store(lines: &mut [u8], at: usize, l: Line)
     requires { ⌜ at + 40 ≤ length (now lines) ⌝ }
     ensures { λ _. ⌜ now (lines .exit) ≡ sets (now (lines .entry)) at (lineBytes l) ⌝ }

@@ -92,7 +92,7 @@ fn reported_at(rows: &[u8], at: usize) -> Reported
     }
 }
 
-// The row whose cell starts at a place.
+// The row whose cell starts at an offset.
 fn read(rows: &[u8], at: usize) -> Row
     requires { ⌜ at + 30 ≤ length (now rows) ⌝ }
     ensures { λ r. ⌜ r ≡ rowFrom (now (rows .entry)) at ⌝ }

@@ -317,7 +317,7 @@ named-at r ls limit z n = rw n (go (lineWith (oldKey r) ls) refl (rw n at z))
         at false agrees z = absurd (omega arith)
 
 module _ (phase : ℕ) (rows : List Row) (ls : List Line) (limit : ℕ) (q : Reading) where
-  -- the branches give what the table gives
+  -- the branches give what the table gives, of a reading that answers 0, 4 or 5, as every reading of bytes does
   pub judged-is : Plain q → judgedBy phase rows ls limit q .answer ≡ answerOf (lowest (contentTable phase (symbolsOf rows) ls limit q))
   unfolding judgedBy contentTable dueTable tradeTable madeTable
   judged-is p =
@@ -345,14 +345,14 @@ module _ (phase : ℕ) (rows : List Row) (ls : List Line) (limit : ℕ) (q : Rea
       let d = due-at phase rows ls limit (q .found) (rw j at z) e in
       (d .0, d .1, j ∙ d .2)
 
-  -- the row that acting goes to is the first of the symbol
+  -- the row that a taken message goes to, if it is no event, is the first of its symbol
   pub judged-row : numberOf (judgedBy phase rows ls limit q .answer) ≡ 0 → isEvent (q .found) ≡ false
       → rowWith (q .found .symbol) rows ≡ At (judgedBy phase rows ls limit q .row)
   judged-row z e =
       let d = judged-on z e in
       d .1 ∙ ap (λ (v : Verdict). At (v .row)) (sym (d .2))
 
-  -- the line that acting goes to is the first that bears the named key
+  -- the line that a taken message names is the first that bears the key
   pub judged-line : numberOf (judgedBy phase rows ls limit q .answer) ≡ 0 → namesOld (q .found) ≡ true
       → lineWith (oldKey (q .found)) ls ≡ At (judgedBy phase rows ls limit q .line)
   judged-line z n =
@@ -383,15 +383,15 @@ number-then b w n cases = go b (eqb n 0 || ltb 4294967295 n) (ltb n w) (ltb w n)
 pub record Wanted (b : Bool) (w n : ℕ) : Type 0 where
   pub sound : b ≡ true
   pub wanted : n ≡ w
-  pub above : 1 ≤ n
-  pub below : n ≤ 4294967295
+  pub least : 1 ≤ n
+  pub greatest : n ≤ 4294967295
 
 either-false : (a b : Bool) → (a || b) ≡ false → (a ≡ false) × (b ≡ false)
 either-false false false e = (refl, refl)
 either-false false true e = absurd (true≢false e)
 either-false true b e = absurd (true≢false e)
 
--- the number is not refused exactly where it is the wanted one
+-- the number is not refused exactly where the book is sound, and it is the wanted one and at most 4,294,967,295
 pub number-wanted : (b : Bool) (w n : ℕ) → (inBook b (numberTable w n) ≡ 0) ↔ Wanted b w n
 unfolding numberTable
 number-wanted b w n = (go b refl (eqb n 0 || ltb 4294967295 n) refl (ltb n w) refl (ltb w n) refl, back)
@@ -407,12 +407,12 @@ number-wanted b w n = (go b refl (eqb n 0 || ltb 4294967295 n) refl (ltb n w) re
         let fits = ltb-false 4294967295 n (p .1) in
         let a = ltb-false n w ey in
         let b = ltb-false w n ez in
-        record { sound = s; wanted = omega arith; above = omega arith; below = fits }
+        record { sound = s; wanted = omega arith; least = omega arith; greatest = fits }
 
     back : Wanted b w n → inBook b (numberTable w n) ≡ 0
     back h =
-        let x = ne-eqb n 0 (λ e. omega (arith, h .above)) in
-        let y = le-ltb 4294967295 n (h .below) in
+        let x = ne-eqb n 0 (λ e. omega (arith, h .least)) in
+        let y = le-ltb 4294967295 n (h .greatest) in
         let u = le-ltb n w (omega (arith, h .wanted)) in
         let v = le-ltb w n (omega (arith, h .wanted)) in
         rw (h .sound, x, y, u, v)

@@ -1,4 +1,4 @@
--- What the book asks of a message that was read, whatever its edition.
+-- What the book asks of a message that was read.
 -- Assumes nothing.
 use Prim.Native.Nat.{ℕ}
 use mathlib.Core.List.{List, _∷_}
@@ -63,7 +63,7 @@ due phase r = cond (isEvent r) (ltb phase (phaseOf (r .event))) (trading phase)
 abbrev pub keyOf : Record → Sale → List ℕ
 keyOf r s = r .centre ∷ s .control
 
--- of the original that X and C name
+-- of T's own trade, and of the original that X and C name
 abbrev pub oldKey : Record → List ℕ
 oldKey r = keyOf r (r .sale)
 

@@ -1,5 +1,6 @@
--- What each call says back: document 01's table, one line for each number, each standing for itself. It is worked over
--- the phase, the listed symbols, the lines so far and the room, so that whoever knows these can work it.
+-- The answers of a message, of a listing and of a row's reading, a case for each number of document 01's table. They are worked
+-- over the phase, the listed symbols, the lines so far and the room, so that whoever knows these can work them. 17 is `inBook`;
+-- 18 is the writer's. 6 to 12 ask what was read, which under 4 and 5 is a record of zeros, and then 4 or 5 is given anyway.
 -- Assumes nothing.
 use Prim.Native.Nat.{ℕ}
 use mathlib.Core.List.{List, [], _∷_, map}

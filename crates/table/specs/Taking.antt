@@ -61,7 +61,7 @@ rowsBy m r i =
     (cond (isSummary r) (withReport (withSummary m i (r .high) (r .low)) i (r .consolidated))
     (withReport m i (r .consolidated)))
 
--- where a search ended; 0 where nothing was found, which no taken message asks for
-abbrev pub placeOf : Found → ℕ
-placeOf Nothing = 0
-placeOf (At i) = i
+-- the number of the cell where a search ended; 0 where nothing was found, which no taken message asks for
+abbrev pub indexOf : Found → ℕ
+indexOf Nothing = 0
+indexOf (At i) = i

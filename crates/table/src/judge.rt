@@ -198,8 +198,8 @@ fn judge_due(
     }
 }
 
-// What the table gives a message that was read: 4 to 12, or `Done` and what acting on it needs. `listed` rows and `used`
-// lines of the rooms are in use.
+// What the table gives a reading: what refused it, or 6 to 12, or `Done` and what acting on it needs. `listed` rows and
+// `used` lines of the rooms are in use.
 pub fn judge(
     phase: u64,
     rows: &[u8],

@@ -16,7 +16,7 @@ use Rattle.store.specs.declared.lines.Line.{Line}
 use Rattle.walk.specs.declared.Price.{Price}
 use Rattle.walk.specs.declared.Price.the-variants.{Absent, Of}
 use Rattle.walk.specs.declared.Last.{Last}
-use Rattle.walk.specs.declared.Last.the-variants.{NoLast, Sale}
+use Rattle.walk.specs.declared.Last.the-variants.{NoLast, Trade}
 use Rattle.walk.specs.declared.Figures.{Figures}
 use Rattle.store.specs.Lines.{lineFrom, lineAt, lineLimit, usedLines}
 use Rattle.walk.specs.Figures.{counts, raise, lower, later, noFigures, sold, dealt, tally, fold, figuresOf}
@@ -160,9 +160,9 @@ module _ (ls : List Line) (l : Line) where
 
   last-more : (h : Last) → IsLast ls h → IsLast (ls ++ (l ∷ [])) (later h (l .place) (l .price))
   last-more NoLast e = newest-only e
-  last-more (Sale v p) e = go (ltb v (l .place)) refl
+  last-more (Trade v p) e = go (ltb v (l .place)) refl
     where
-      go : (t : Bool) → ltb v (l .place) ≡ t → IsLast (ls ++ (l ∷ [])) (cond t (Sale (l .place) (l .price)) (Sale v p))
+      go : (t : Bool) → ltb v (l .place) ≡ t → IsLast (ls ++ (l ∷ [])) (cond t (Trade (l .place) (l .price)) (Trade v p))
       go true t = newest-new v p e (ltb-true v (l .place) t)
       go false t = newest-kept v p e (ltb-false v (l .place) t)
 
@@ -270,9 +270,9 @@ module _ (ls : List Line) where
 
   last-one : (x y : Last) → IsLast ls x → IsLast ls y → x ≡ y
   last-one NoLast NoLast a b = refl
-  last-one NoLast (Sale w q) a b = absurd (newest-some w q b a)
-  last-one (Sale v p) NoLast a b = absurd (newest-some v p a b)
-  last-one (Sale v p) (Sale w q) a b =
+  last-one NoLast (Trade w q) a b = absurd (newest-some w q b a)
+  last-one (Trade v p) NoLast a b = absurd (newest-some v p a b)
+  last-one (Trade v p) (Trade w q) a b =
       let e : a .line ≡ b .line = newest-one v p w q a b in
       let place : v ≡ w = sym (a .place) ∙ ap (λ (l : Line). l .place) e ∙ b .place in
       let price : p ≡ q = sym (a .price) ∙ ap (λ (l : Line). l .price) e ∙ b .price in

@@ -11,7 +11,7 @@ use Rattle.store.specs.declared.lines.Line.{Line}
 use Rattle.walk.specs.declared.Price.{Price}
 use Rattle.walk.specs.declared.Price.the-variants.{Absent, Of}
 use Rattle.walk.specs.declared.Last.{Last}
-use Rattle.walk.specs.declared.Last.the-variants.{NoLast, Sale}
+use Rattle.walk.specs.declared.Last.the-variants.{NoLast, Trade}
 use Rattle.walk.specs.declared.Figures.{Figures}
 
 -- whether a line counts for a symbol's row: it is live, and of the symbol
@@ -30,8 +30,8 @@ lower (Of q) p = cond (ltb p q) (Of p) (Of q)
 
 -- the sale with the greater place, of equal places the first
 abbrev pub later : Last → ℕ → ℕ → Last
-later NoLast place price = Sale place price
-later (Sale v q) place price = cond (ltb v place) (Sale place price) (Sale v q)
+later NoLast place price = Trade place price
+later (Trade v q) place price = cond (ltb v place) (Trade place price) (Trade v q)
 
 abbrev pub noFigures : Figures
 noFigures = record { volume = 0; count = 0; high = Absent; low = Absent; last = NoLast }
@@ -47,9 +47,11 @@ sold t price size place marks =
       last = cond (marks .last) (later (t .last) place price) (t .last);
     }
 
+-- the same, of a line, whose marks are its condition's
 abbrev pub dealt : Figures → Line → Figures
 dealt t l = sold t (l .price) (l .size) (l .place) (conditionMarks (l .condition))
 
+-- one more line, which may be dead or another symbol's
 unfoldable pub tally : List ℕ → Figures → Line → Figures
 tally symbol t l = cond (counts symbol l) (dealt t l) t
 

@@ -11,7 +11,7 @@ use Rattle.store.specs.declared.lines.Line.{Line}
 use Rattle.walk.specs.declared.Price.{Price}
 use Rattle.walk.specs.declared.Price.the-variants.{Absent, Of}
 use Rattle.walk.specs.declared.Last.{Last}
-use Rattle.walk.specs.declared.Last.the-variants.{NoLast, Sale}
+use Rattle.walk.specs.declared.Last.the-variants.{NoLast, Trade}
 use Rattle.walk.specs.declared.Figures.{Figures}
 use Rattle.walk.specs.Figures.{counts}
 
@@ -32,11 +32,9 @@ bearsFirst l = conditionMarks (l .condition) .«high_low»
 abbrev pub bearsSecond : Line → Bool
 bearsSecond l = conditionMarks (l .condition) .last
 
--- the lines with the first mark
 abbrev pub firstMark : List Line → List Line
 firstMark ls = keep bearsFirst ls
 
--- the lines with the second mark
 abbrev pub secondMark : List Line → List Line
 secondMark ls = keep bearsSecond ls
 
@@ -81,7 +79,7 @@ pub record Newest (ls : List Line) (v p : ℕ) : Type 0 where
 -- the price of the line with the greatest place, of equal ones the first; none where there is no line
 abbrev pub IsLast : List Line → Last → Type 0
 IsLast ls NoLast = ls ≡ []
-IsLast ls (Sale place price) = Newest ls place price
+IsLast ls (Trade place price) = Newest ls place price
 
 -- ---- the figures
 

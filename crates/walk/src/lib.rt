@@ -22,7 +22,7 @@ pub enum Price {
 // The newest trade that may be the last: its place and its price.
 pub enum Last {
     NoLast,
-    Sale(u32, u32),
+    Trade(u32, u32),
 }
 
 // What a row reads from the live lines of its symbol.
@@ -65,12 +65,12 @@ fn latest(l: Last, marked: bool, place: u32, price: u32) -> Last
 {
     if marked {
         match l {
-            Last::NoLast => Last::Sale(place, price),
-            Last::Sale(v, q) => {
+            Last::NoLast => Last::Trade(place, price),
+            Last::Trade(v, q) => {
                 if v < place {
-                    Last::Sale(place, price)
+                    Last::Trade(place, price)
                 } else {
-                    Last::Sale(v, q)
+                    Last::Trade(v, q)
                 }
             }
         }
@@ -96,7 +96,7 @@ fn with_sale(t: Figures, price: u32, size: u32, place: u32, marks: Marks) -> Fig
     }
 }
 
-// The figures with the line whose cell starts at a place, if it is live and of the symbol.
+// The figures with the line whose cell starts at an offset, if it is live and of the symbol.
 fn with_line(t: Figures, lines: &[u8], at: usize, symbol: [u8; 8]) -> Figures
     requires { ⌜ at + 40 ≤ length (now lines) ⌝ }
     requires { ⌜ (t .volume + 2 ^ 32 ≤ 2 ^ 64) × (t .count + 1 < 2 ^ 64) ⌝ }

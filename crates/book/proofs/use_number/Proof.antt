@@ -30,7 +30,7 @@ number-requires : tie.Need-number-requires
 number-requires c κs = search needs
 
 use-up-requires : tie.Need-use-up-requires
-use-up-requires c κs = omega (arith, wanted-now (c .before .before .before .before .before .before .before .before .before) .below)
+use-up-requires c κs = omega (arith, wanted-now (c .before .before .before .before .before .before .before .before .before) .greatest)
 
 same-length : tie.Need-same-length
 same-length c = search needs
@@ -43,7 +43,7 @@ returns c =
     (refused-said (c .before .before .before .before .before .before .before .before .before .before .args .c) (c .before .before .before .before .before .before .before .before .before .before .args .rows .now) (c .before .before .before .before .before .before .before .before .before .before .args .lines .now) (c .before .before .before .before .before .before .before .before .before .before .args .message .now) (wanted-now (c .before .before .before .before .before .before .before .before .before .before)) _ (c .before .before .before .before .before .before .read .ensures) _ (c .before .before .before .judge .ensures) (λ e. c .before .if1 .taken (c .before .before .number .ensures ∙ e)) _ (c .use-up .ensures), (refused-rows (c .before .before .before .before .before .before .before .before .before .before .args .c) (c .before .before .before .before .before .before .before .before .before .before .args .rows .now) (c .before .before .before .before .before .before .before .before .before .before .args .lines .now) (c .before .before .before .before .before .before .before .before .before .before .args .message .now) (wanted-now (c .before .before .before .before .before .before .before .before .before .before)) _ (c .before .before .before .before .before .before .read .ensures) _ (c .before .before .before .judge .ensures) (λ e. c .before .if1 .taken (c .before .before .number .ensures ∙ e)), refused-lines (c .before .before .before .before .before .before .before .before .before .before .args .c) (c .before .before .before .before .before .before .before .before .before .before .args .rows .now) (c .before .before .before .before .before .before .before .before .before .before .args .lines .now) (c .before .before .before .before .before .before .before .before .before .before .args .message .now) (wanted-now (c .before .before .before .before .before .before .before .before .before .before)) _ (c .before .before .before .before .before .before .read .ensures) _ (c .before .before .before .judge .ensures) (λ e. c .before .if1 .taken (c .before .before .number .ensures ∙ e))))
 
 cast-take-lines : tie.Need-cast-take-lines
-cast-take-lines c = omega (arith, wanted-now (c .before .before .before .before .before .before .before .before .before .before .before .before) .below)
+cast-take-lines c = omega (arith, wanted-now (c .before .before .before .before .before .before .before .before .before .before .before .before) .greatest)
 
 take-lines-requires : tie.Need-take-lines-requires
 take-lines-requires c κs = search needs
@@ -52,7 +52,7 @@ take-rows-requires : tie.Need-take-rows-requires
 take-rows-requires c κs = search needs
 
 take-requires : tie.Need-take-requires
-take-requires c κs = (omega (arith, wanted-now (c .before .before .before .before .before .before .before .before .before .before .before .before .before .before .before .before .before .before .before) .below), omega (arith, wanted-now (c .before .before .before .before .before .before .before .before .before .before .before .before .before .before .before .before .before .before .before) .below, within (c .before .before .before .before .before .before .before .before .before .before .before .before .before .before .before .before .before .before .before) .takenFit), omega (arith, within (c .before .before .before .before .before .before .before .before .before .before .before .before .before .before .before .before .before .before .before) .linesFit))
+take-requires c κs = (omega (arith, wanted-now (c .before .before .before .before .before .before .before .before .before .before .before .before .before .before .before .before .before .before .before) .greatest), omega (arith, wanted-now (c .before .before .before .before .before .before .before .before .before .before .before .before .before .before .before .before .before .before .before) .greatest, within (c .before .before .before .before .before .before .before .before .before .before .before .before .before .before .before .before .before .before .before) .takenFit), omega (arith, within (c .before .before .before .before .before .before .before .before .before .before .before .before .before .before .before .before .before .before .before) .linesFit))
 
 same-length-3 : tie.Need-same-length-3
 same-length-3 c = search needs

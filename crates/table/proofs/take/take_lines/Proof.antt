@@ -21,7 +21,7 @@ same-length c = search needs
 
 returns : tie.Need-returns
 unfolding linesBy
-returns c = simp (eq-eqb _ _ (c .before .before .before .before .before .if1 .taken)) (c .before .before .put .ensures ∙ ap (withLine (c .before .before .before .before .before .before .before .before .args .lines .now) (c .before .before .before .before .before .before .before .before .args .used)) (c .before .before .before .made-line .ensures))
+returns c = simp (eq-eqb (c .before .before .before .before .before .before .before .before .args .r .letter) 84 (c .before .before .before .before .before .if1 .taken)) (c .before .before .put .ensures ∙ ap (withLine (c .before .before .before .before .before .before .before .before .args .lines .now) (c .before .before .before .before .before .before .before .before .args .used)) (c .before .before .before .made-line .ensures))
 
 kill-requires : tie.Need-kill-requires
 kill-requires c κs = search needs

@@ -9,7 +9,7 @@ use Rattle.table.proofs.take.take_rows.Tie as tie
 
 returns : tie.Need-returns
 unfolding rowsBy
-returns c = simp (eq-eqb _ _ (c .if1 .taken))
+returns c = simp (eq-eqb (c .before .before .before .args .r .letter) 83 (c .if1 .taken))
 
 summarise-requires : tie.Need-summarise-requires
 summarise-requires c κs = search needs
