@@ -11,7 +11,6 @@ use lib.ListN.{length}
 use Rattle.octets.specs.Text.{text}
 use Rattle.message.specs.Answers.{numberOf, answerOf}
 use Rattle.message.specs.declared.answer.Answer.{Answer}
-use Rattle.message.specs.declared.Record.{Record}
 use Rattle.message.specs.declared.Reading.{Reading}
 use Rattle.message.specs.Reading.{readOf}
 use Rattle.store.specs.declared.Found.the-variants.{Nothing, At}
@@ -27,8 +26,8 @@ use Rattle.book.specs.declared.Shown.{Shown}
 use Rattle.book.specs.declared.show.RowShown.{RowShown}
 use Rattle.table.specs.declared.judge.Verdict.{Verdict}
 use Rattle.book.specs.Counting.{usedUp, oneRowMore, takenBy, sound}
-use Rattle.table.specs.Messages.{isEvent, isTrade, isCancel, isCorrection, namesOld, oldKey}
-use Rattle.table.specs.Table.{Case, symbolsOf, inBook, isFound, listed, listTable, contentTable, numberTable}
+use Rattle.table.specs.Messages.{isEvent, isCancel, isCorrection, namesOld, oldKey}
+use Rattle.table.specs.Table.{Case, symbolsOf, inBook, isFound, listed, listTable}
 use Rattle.table.specs.Taking.{linesBy, rowsBy, indexOf}
 use Rattle.book.specs.Showing.{shownOf, nothingShown}
 use Rattle.book.specs.Calls.{numberAnswer, located, listAnswer, listSaid, listRows, deliverAnswer, deliverSaid, deliverRows, deliverLines, rowAnswer, rowShown}

@@ -13,7 +13,6 @@ use table::judge::judge;
 use table::take::take_lines;
 use table::take::take_rows;
 ghost use mathlib.Core.Path.{_≡_};
-ghost use lib.ListN.{length};
 ghost use Rattle.message.specs.Answers.{answerOf};
 ghost use Rattle.book.specs.Counting.{freshCounters};
 ghost use Rattle.book.specs.Calls.{numberAnswer, listAnswer, listSaid, listRows, deliverSaid, deliverRows, deliverLines, located, rowShown};

@@ -1,25 +1,24 @@
 -- Laws that the functions of this crate stand on: the turns of the searches, what is inside a limit, cells stored field
 -- by field.
 -- Assumes nothing.
-use mathlib.Core.Path.{_≡_, refl, ap, sym, _∙_}
-use mathlib.Core.Bool.{Bool, true, false, cond, _&&_, and-false}
+use mathlib.Core.Path.{_≡_, ap, sym, _∙_}
+use mathlib.Core.Bool.{Bool, true, false, cond}
 use mathlib.Core.List.{List, [], _∷_, _++_}
-use Prim.Native.Nat.{ℕ, zero, suc, _+_, _-_, _*_, _≤_, _<_}
+use Prim.Native.Nat.{ℕ, _+_, _-_, _≤_, _<_}
 use native.Mathlib.Nat.{add-zero}
 use native.Mathlib.Numerals.{add-one}
 use native.Mathlib.Omega.{arith}
 use borrow.Author.Tests.{lt-ltb, le-ltb}
-use lib.Dec.{eqb, ltb}
+use lib.Dec.{ltb}
 use lib.ListN.{length, set, replicate}
 use lib.Seq.{sets}
-use Rattle.octets.specs.Run.{tab, part, same}
-use Rattle.octets.specs.Number.{be, digits}
+use Rattle.octets.specs.Run.{tab}
+use Rattle.octets.specs.Number.{digits}
 use Rattle.octets.proofs.Laws.{tab-step, tab-end, digits-length, sets-then}
 use Rattle.store.specs.Search.{first}
 use Rattle.store.specs.Lines.{lineBytes, mark}
 use Rattle.store.specs.Rows.{newRow, reportBytes, summaryBytes}
 use Rattle.store.specs.declared.lines.Line.{Line}
-use Rattle.store.specs.declared.Found.{Found}
 use Rattle.store.specs.declared.Found.the-variants.{Nothing, At}
 
 -- ---- the search: what is left decides

@@ -4,8 +4,7 @@ use crate::lesser;
 ghost use mathlib.Core.Path.{_≡_};
 ghost use Prim.Native.Nat.{_+_, _*_, _≤_};
 ghost use lib.ListN.{length};
-ghost use lib.Seq.{sets};
-ghost use Rattle.store.specs.Rows.{rowFrom, noRow, summaryAt, reportedAt, newRow, reportBytes, summaryBytes, rowLimit, usedRows, rowWith, rowIn, withRow, withReport, withSummary};
+ghost use Rattle.store.specs.Rows.{rowFrom, noRow, summaryAt, reportedAt, rowLimit, usedRows, rowWith, rowIn, withRow, withReport, withSummary};
 
 // What the latest J that was taken says: its high and its low.
 pub enum Summary {

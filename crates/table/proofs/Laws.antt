@@ -1,12 +1,12 @@
 -- Laws that the functions of this crate stand on: keys, trades compared, and the line that a search found.
 -- Assumes nothing.
 use mathlib.Core.Path.{_≡_, refl, ap, sym, _∙_}
-use mathlib.Core.Bool.{Bool, true, false, cond, not, _&&_, _||_}
+use mathlib.Core.Bool.{Bool, true, false, cond, _&&_}
 use mathlib.Core.List.{List, [], _∷_}
-use Prim.Native.Nat.{ℕ, zero, suc, _<_, min}
+use Prim.Native.Nat.{ℕ, suc}
 use native.Mathlib.Omega.{arith}
 use borrow.Author.Tests.{eq-eqb, ne-eqb}
-use lib.Dec.{eqb, ltb, leb}
+use lib.Dec.{eqb, leb}
 use lib.ListN.{length, getD, set, replicate}
 use lib.Seq.{sets}
 use Rattle.octets.specs.Run.{part, same}
@@ -16,7 +16,6 @@ use Rattle.message.specs.Answers.{numberOf, answerOf}
 use Rattle.message.specs.declared.answer.Answer.{Answer}
 use Rattle.message.specs.declared.Record.{Record}
 use Rattle.store.specs.declared.lines.Line.{Line}
-use Rattle.store.specs.declared.Found.{Found}
 use Rattle.store.specs.declared.Found.the-variants.{Nothing, At}
 use Rattle.store.specs.Lines.{usedLines, lineLimit, lineWith, bears, lineIn, noLine, withLine, withDead}
 use Rattle.store.proofs.Slabs.{found-below, used-lines-length, line-in}
