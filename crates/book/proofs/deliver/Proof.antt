@@ -4,7 +4,6 @@ use mathlib.Core.Path.{sym, _∙_}
 use Rattle.octets.specs.Run.{Bytes}
 use Rattle.book.proofs.Steps.{early-said, wanted-number, wanted-said}
 use borrow.Author.Needs.{needs}
-use borrow.Author.Needs.{needs}
 use Rattle.book.proofs.deliver.Statement.{statement}
 use Rattle.book.proofs.deliver.Tie as tie
 
@@ -26,10 +25,14 @@ same-length-2 : tie.Need-same-length-2
 same-length-2 c = search needs
 
 returns : tie.Need-returns
-returns c = early-said (c .before .before .before .before .before .before .before .before .args .c) (c .before .before .before .before .before .before .before .before .args .rows .now) (c .before .before .before .before .before .before .before .before .args .lines .now) (c .before .before .before .before .before .before .before .before .args .number) (c .before .before .before .before .before .before .before .before .args .message .now) _ (c .before .before .judge-number .ensures) (λ e. c .if1 .taken (c .before .number .ensures ∙ e))
+returns c =
+    let a = c .before .before .before .before .before .before .before .before .args in
+    early-said (a .c) (a .rows .now) (a .lines .now) (a .number) (a .message .now) _ (c .before .before .judge-number .ensures) (λ e. c .if1 .taken (c .before .number .ensures ∙ e))
 
 use-number-requires : tie.Need-use-number-requires
-use-number-requires c κs = wanted-number (c .before .before .before .before .before .before .before .before .before .before .args .c) (c .before .before .before .before .before .before .before .before .before .before .args .rows .now) (c .before .before .before .before .before .before .before .before .before .before .args .lines .now) (c .before .before .before .before .before .before .before .before .before .before .args .number) (c .before .before .before .before .before .before .before .before .before .before .args .message .now) _ (c .before .before .before .before .judge-number .ensures) (sym (c .before .before .before .number .ensures) ∙ c .before .before .if1 .left)
+use-number-requires c κs =
+    let a = c .before .before .before .before .before .before .before .before .before .before .args in
+    wanted-number (a .c) (a .rows .now) (a .lines .now) (a .number) (a .message .now) _ (c .before .before .before .before .judge-number .ensures) (sym (c .before .before .before .number .ensures) ∙ c .before .before .if1 .left)
 
 same-length-3 : tie.Need-same-length-3
 same-length-3 c = search needs
@@ -38,7 +41,9 @@ same-length-4 : tie.Need-same-length-4
 same-length-4 c = search needs
 
 returns-2 : tie.Need-returns-2
-returns-2 c = wanted-said (c .before .before .before .before .before .before .before .before .before .before .before .before .before .before .before .args .c) (c .before .before .before .before .before .before .before .before .before .before .before .before .before .before .before .args .rows .now) (c .before .before .before .before .before .before .before .before .before .before .before .before .before .before .before .args .lines .now) (c .before .before .before .before .before .before .before .before .before .before .before .before .before .before .before .args .number) (c .before .before .before .before .before .before .before .before .before .before .before .before .before .before .before .args .message .now) _ (c .before .before .before .before .before .before .before .before .before .judge-number .ensures) (sym (c .before .before .before .before .before .before .before .before .number .ensures) ∙ c .before .before .before .before .before .before .before .if1 .left) _ _ _ (c .before .before .before .before .use-number .ensures)
+returns-2 c =
+    let a = c .before .before .before .before .before .before .before .before .before .before .before .before .before .before .before .args in
+    wanted-said (a .c) (a .rows .now) (a .lines .now) (a .number) (a .message .now) _ (c .before .before .before .before .before .before .before .before .before .judge-number .ensures) (sym (c .before .before .before .before .before .before .before .before .number .ensures) ∙ c .before .before .before .before .before .before .before .if1 .left) _ _ _ (c .before .before .before .before .use-number .ensures)
 
 pub deliver-spec : {M : Type 1} → statement M
 deliver-spec =

@@ -3,7 +3,6 @@
 use mathlib.Core.Path.{sym, _∙_}
 use Rattle.book.proofs.Steps.{locate-none, locate-there, locate-unsound}
 use borrow.Author.Needs.{needs}
-use borrow.Author.Needs.{needs}
 use Rattle.book.proofs.find_row.Statement.{statement}
 use Rattle.book.proofs.find_row.Tie as tie
 
@@ -20,13 +19,19 @@ enum-known-i : tie.Need-enum-known-i
 enum-known-i c = search needs
 
 returns : tie.Need-returns
-returns c = locate-none (c .before .before .before .before .before .before .before .args .c) (c .before .before .before .before .before .before .before .args .rows .now) (c .before .before .before .before .before .before .before .args .lines .now) (c .before .before .before .before .before .before .before .args .symbol) (sym (c .before .before .before .before .is-sound .ensures) ∙ c .before .before .before .if1 .taken) (sym (c .before .before .find .ensures) ∙ c .enum-told .given .1)
+returns c =
+    let a = c .before .before .before .before .before .before .before .args in
+    locate-none (a .c) (a .rows .now) (a .lines .now) (a .symbol) (sym (c .before .before .before .before .is-sound .ensures) ∙ c .before .before .before .if1 .taken) (sym (c .before .before .find .ensures) ∙ c .enum-told .given .1)
 
 returns-2 : tie.Need-returns-2
-returns-2 c = locate-there (c .before .before .before .before .before .before .before .before .args .c) (c .before .before .before .before .before .before .before .before .args .rows .now) (c .before .before .before .before .before .before .before .before .args .lines .now) (c .before .before .before .before .before .before .before .before .args .symbol) _ (sym (c .before .before .before .before .before .is-sound .ensures) ∙ c .before .before .before .before .if1 .taken) (sym (c .before .before .before .find .ensures) ∙ c .before .i .given .1)
+returns-2 c =
+    let a = c .before .before .before .before .before .before .before .before .args in
+    locate-there (a .c) (a .rows .now) (a .lines .now) (a .symbol) _ (sym (c .before .before .before .before .before .is-sound .ensures) ∙ c .before .before .before .before .if1 .taken) (sym (c .before .before .before .find .ensures) ∙ c .before .i .given .1)
 
 returns-3 : tie.Need-returns-3
-returns-3 c = locate-unsound (c .before .before .before .before .args .c) (c .before .before .before .before .args .rows .now) (c .before .before .before .before .args .lines .now) (c .before .before .before .before .args .symbol) (sym (c .before .is-sound .ensures) ∙ c .if1 .left)
+returns-3 c =
+    let a = c .before .before .before .before .args in
+    locate-unsound (a .c) (a .rows .now) (a .lines .now) (a .symbol) (sym (c .before .is-sound .ensures) ∙ c .if1 .left)
 
 pub find-row-spec : {M : Type 1} → statement M
 find-row-spec =

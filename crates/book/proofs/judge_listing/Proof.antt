@@ -6,7 +6,6 @@ use lib.Dec.{leb}
 use borrow.Author.Tests.{le-leb, lt-leb}
 use Rattle.book.proofs.Steps.{list-unsound, list-broken, list-late, list-there, list-new}
 use borrow.Author.Needs.{needs}
-use borrow.Author.Needs.{needs}
 use Rattle.book.proofs.judge_listing.Statement.{statement}
 use Rattle.book.proofs.judge_listing.Tie as tie
 
@@ -20,7 +19,9 @@ is-text-requires : tie.Need-is-text-requires
 is-text-requires c κs = search needs
 
 returns : tie.Need-returns
-returns c = list-late (c .before .before .before .before .before .before .before .before .before .args .c) (c .before .before .before .before .before .before .before .before .before .args .rows .now) (c .before .before .before .before .before .before .before .before .before .args .lines .now) (c .before .before .before .before .before .before .before .before .before .args .t4) (c .before .before .before .before .before .before .before .before .before .args .close) (sym (c .before .before .before .before .before .before .is-sound .ensures) ∙ c .before .before .before .before .before .if1 .taken) (ap (λ (b : Bool). b && leb (c .before .before .before .before .before .before .before .before .before .args .close) 2000000000) (sym (c .before .before .before .is-text .ensures)) ∙ c .before .before .if2 .taken) (c .if3 .taken)
+returns c =
+    let a = c .before .before .before .before .before .before .before .before .before .args in
+    list-late (a .c) (a .rows .now) (a .lines .now) (a .t4) (a .close) (sym (c .before .before .before .before .before .before .is-sound .ensures) ∙ c .before .before .before .before .before .if1 .taken) (ap (λ (b : Bool). b && leb (a .close) 2000000000) (sym (c .before .before .before .is-text .ensures)) ∙ c .before .before .if2 .taken) (c .if3 .taken)
 
 find-requires : tie.Need-find-requires
 find-requires c κs = search needs
@@ -35,19 +36,29 @@ enum-known-i : tie.Need-enum-known-i
 enum-known-i c = search needs
 
 returns-2 : tie.Need-returns-2
-returns-2 c = list-new (c .before .before .before .before .before .before .before .before .before .before .before .before .before .before .before .args .c) (c .before .before .before .before .before .before .before .before .before .before .before .before .before .before .before .args .rows .now) (c .before .before .before .before .before .before .before .before .before .before .before .before .before .before .before .args .lines .now) (c .before .before .before .before .before .before .before .before .before .before .before .before .before .before .before .args .t4) (c .before .before .before .before .before .before .before .before .before .before .before .before .before .before .before .args .close) (sym (c .before .before .before .before .before .before .before .before .before .before .before .before .is-sound .ensures) ∙ c .before .before .before .before .before .before .before .before .before .before .before .if1 .taken) (ap (λ (b : Bool). b && leb (c .before .before .before .before .before .before .before .before .before .before .before .before .before .before .before .args .close) 2000000000) (sym (c .before .before .before .before .before .before .before .before .before .is-text .ensures)) ∙ c .before .before .before .before .before .before .before .before .if2 .taken) (c .before .before .before .before .before .before .if3 .left) (sym (c .before .before .before .before .before .find .ensures) ∙ c .before .before .before .enum-told .given .1) true (le-leb _ _ (rw (c .before .before .limit .ensures) at (c .if4 .taken)))
+returns-2 c =
+    let a = c .before .before .before .before .before .before .before .before .before .before .before .before .before .before .before .args in
+    list-new (a .c) (a .rows .now) (a .lines .now) (a .t4) (a .close) (sym (c .before .before .before .before .before .before .before .before .before .before .before .before .is-sound .ensures) ∙ c .before .before .before .before .before .before .before .before .before .before .before .if1 .taken) (ap (λ (b : Bool). b && leb (a .close) 2000000000) (sym (c .before .before .before .before .before .before .before .before .before .is-text .ensures)) ∙ c .before .before .before .before .before .before .before .before .if2 .taken) (c .before .before .before .before .before .before .if3 .left) (sym (c .before .before .before .before .before .find .ensures) ∙ c .before .before .before .enum-told .given .1) true (le-leb _ _ (rw (c .before .before .limit .ensures) at (c .if4 .taken)))
 
 returns-3 : tie.Need-returns-3
-returns-3 c = list-new (c .before .before .before .before .before .before .before .before .before .before .before .before .before .before .before .args .c) (c .before .before .before .before .before .before .before .before .before .before .before .before .before .before .before .args .rows .now) (c .before .before .before .before .before .before .before .before .before .before .before .before .before .before .before .args .lines .now) (c .before .before .before .before .before .before .before .before .before .before .before .before .before .before .before .args .t4) (c .before .before .before .before .before .before .before .before .before .before .before .before .before .before .before .args .close) (sym (c .before .before .before .before .before .before .before .before .before .before .before .before .is-sound .ensures) ∙ c .before .before .before .before .before .before .before .before .before .before .before .if1 .taken) (ap (λ (b : Bool). b && leb (c .before .before .before .before .before .before .before .before .before .before .before .before .before .before .before .args .close) 2000000000) (sym (c .before .before .before .before .before .before .before .before .before .is-text .ensures)) ∙ c .before .before .before .before .before .before .before .before .if2 .taken) (c .before .before .before .before .before .before .if3 .left) (sym (c .before .before .before .before .before .find .ensures) ∙ c .before .before .before .enum-told .given .1) false (lt-leb _ _ (rw (c .before .before .limit .ensures) at (c .if4 .left)))
+returns-3 c =
+    let a = c .before .before .before .before .before .before .before .before .before .before .before .before .before .before .before .args in
+    list-new (a .c) (a .rows .now) (a .lines .now) (a .t4) (a .close) (sym (c .before .before .before .before .before .before .before .before .before .before .before .before .is-sound .ensures) ∙ c .before .before .before .before .before .before .before .before .before .before .before .if1 .taken) (ap (λ (b : Bool). b && leb (a .close) 2000000000) (sym (c .before .before .before .before .before .before .before .before .before .is-text .ensures)) ∙ c .before .before .before .before .before .before .before .before .if2 .taken) (c .before .before .before .before .before .before .if3 .left) (sym (c .before .before .before .before .before .find .ensures) ∙ c .before .before .before .enum-told .given .1) false (lt-leb _ _ (rw (c .before .before .limit .ensures) at (c .if4 .left)))
 
 returns-4 : tie.Need-returns-4
-returns-4 c = list-there (c .before .before .before .before .before .before .before .before .before .before .before .before .before .args .c) (c .before .before .before .before .before .before .before .before .before .before .before .before .before .args .rows .now) (c .before .before .before .before .before .before .before .before .before .before .before .before .before .args .lines .now) (c .before .before .before .before .before .before .before .before .before .before .before .before .before .args .t4) (c .before .before .before .before .before .before .before .before .before .before .before .before .before .args .close) (sym (c .before .before .before .before .before .before .before .before .before .before .is-sound .ensures) ∙ c .before .before .before .before .before .before .before .before .before .if1 .taken) (ap (λ (b : Bool). b && leb (c .before .before .before .before .before .before .before .before .before .before .before .before .before .args .close) 2000000000) (sym (c .before .before .before .before .before .before .before .is-text .ensures)) ∙ c .before .before .before .before .before .before .if2 .taken) (c .before .before .before .before .if3 .left) _ (sym (c .before .before .before .find .ensures) ∙ c .before .i .given .1)
+returns-4 c =
+    let a = c .before .before .before .before .before .before .before .before .before .before .before .before .before .args in
+    list-there (a .c) (a .rows .now) (a .lines .now) (a .t4) (a .close) (sym (c .before .before .before .before .before .before .before .before .before .before .is-sound .ensures) ∙ c .before .before .before .before .before .before .before .before .before .if1 .taken) (ap (λ (b : Bool). b && leb (a .close) 2000000000) (sym (c .before .before .before .before .before .before .before .is-text .ensures)) ∙ c .before .before .before .before .before .before .if2 .taken) (c .before .before .before .before .if3 .left) _ (sym (c .before .before .before .find .ensures) ∙ c .before .i .given .1)
 
 returns-5 : tie.Need-returns-5
-returns-5 c = list-broken (c .before .before .before .before .before .before .before .args .c) (c .before .before .before .before .before .before .before .args .rows .now) (c .before .before .before .before .before .before .before .args .lines .now) (c .before .before .before .before .before .before .before .args .t4) (c .before .before .before .before .before .before .before .args .close) (sym (c .before .before .before .before .is-sound .ensures) ∙ c .before .before .before .if1 .taken) (ap (λ (b : Bool). b && leb (c .before .before .before .before .before .before .before .args .close) 2000000000) (sym (c .before .is-text .ensures)) ∙ c .if2 .left)
+returns-5 c =
+    let a = c .before .before .before .before .before .before .before .args in
+    list-broken (a .c) (a .rows .now) (a .lines .now) (a .t4) (a .close) (sym (c .before .before .before .before .is-sound .ensures) ∙ c .before .before .before .if1 .taken) (ap (λ (b : Bool). b && leb (a .close) 2000000000) (sym (c .before .is-text .ensures)) ∙ c .if2 .left)
 
 returns-6 : tie.Need-returns-6
-returns-6 c = list-unsound (c .before .before .before .before .args .c) (c .before .before .before .before .args .rows .now) (c .before .before .before .before .args .lines .now) (c .before .before .before .before .args .t4) (c .before .before .before .before .args .close) (sym (c .before .is-sound .ensures) ∙ c .if1 .left)
+returns-6 c =
+    let a = c .before .before .before .before .args in
+    list-unsound (a .c) (a .rows .now) (a .lines .now) (a .t4) (a .close) (sym (c .before .is-sound .ensures) ∙ c .if1 .left)
 
 pub judge-listing-spec : {M : Type 1} → statement M
 judge-listing-spec =

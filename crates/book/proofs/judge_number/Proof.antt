@@ -3,7 +3,6 @@
 use mathlib.Core.Path.{sym, _∙_}
 use Rattle.book.specs.Calls.{numberAnswer}
 use borrow.Author.Needs.{needs}
-use borrow.Author.Needs.{needs}
 use Rattle.book.proofs.judge_number.Statement.{statement}
 use Rattle.book.proofs.judge_number.Tie as tie
 

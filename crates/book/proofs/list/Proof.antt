@@ -4,7 +4,6 @@ use mathlib.Core.Path.{sym, _∙_}
 use native.Mathlib.Omega.{arith}
 use Rattle.book.proofs.Steps.{list-refused, list-fits, list-said, list-rows}
 use borrow.Author.Needs.{needs}
-use borrow.Author.Needs.{needs}
 use Rattle.book.proofs.list.Statement.{statement}
 use Rattle.book.proofs.list.Tie as tie
 
@@ -18,13 +17,17 @@ same-length : tie.Need-same-length
 same-length c = search needs
 
 returns : tie.Need-returns
-returns c = list-refused (c .before .before .before .before .before .before .args .c) (c .before .before .before .before .before .before .args .rows .now) (c .before .before .before .before .before .before .args .lines .now) (c .before .before .before .before .before .before .args .symbol) (c .before .before .before .before .before .before .args .close) _ (c .before .before .judge-listing .ensures) (λ e. c .if1 .taken (c .before .number .ensures ∙ e))
+returns c =
+    let a = c .before .before .before .before .before .before .args in
+    list-refused (a .c) (a .rows .now) (a .lines .now) (a .symbol) (a .close) _ (c .before .before .judge-listing .ensures) (λ e. c .if1 .taken (c .before .number .ensures ∙ e))
 
 put-requires : tie.Need-put-requires
 put-requires c κs = search needs
 
 add-row-requires : tie.Need-add-row-requires
-add-row-requires c κs = omega (arith, list-fits (c .before .before .before .before .before .before .before .before .before .before .args .c) (c .before .before .before .before .before .before .before .before .before .before .args .rows .now) (c .before .before .before .before .before .before .before .before .before .before .args .lines .now) (c .before .before .before .before .before .before .before .before .before .before .args .symbol) (c .before .before .before .before .before .before .before .before .before .before .args .close) _ (c .before .before .before .before .before .before .judge-listing .ensures) (sym (c .before .before .before .before .before .number .ensures) ∙ c .before .before .before .before .if1 .left))
+add-row-requires c κs =
+    let a = c .before .before .before .before .before .before .before .before .before .before .args in
+    omega (arith, list-fits (a .c) (a .rows .now) (a .lines .now) (a .symbol) (a .close) _ (c .before .before .before .before .before .before .judge-listing .ensures) (sym (c .before .before .before .before .before .number .ensures) ∙ c .before .before .before .before .if1 .left))
 
 same-length-2 : tie.Need-same-length-2
 same-length-2 c = search needs

@@ -4,7 +4,6 @@ use mathlib.Core.Path.{sym, _∙_}
 use Rattle.octets.specs.Run.{Bytes}
 use Rattle.book.proofs.Steps.{row-refused, row-there}
 use borrow.Author.Needs.{needs}
-use borrow.Author.Needs.{needs}
 use Rattle.book.proofs.row.Statement.{statement}
 use Rattle.book.proofs.row.Tie as tie
 
@@ -22,7 +21,9 @@ nothing-requires : tie.Need-nothing-requires
 nothing-requires c κs = search needs
 
 returns : tie.Need-returns
-returns c = row-refused (c .before .before .before .before .before .before .args .c) (c .before .before .before .before .before .before .args .rows .now) (c .before .before .before .before .before .before .args .lines .now) (c .before .before .before .before .before .before .args .symbol) _ (c .before .before .before .find-row .ensures) (λ e. c .before .if1 .taken (c .before .before .number .ensures ∙ e)) _ (c .nothing .ensures)
+returns c =
+    let a = c .before .before .before .before .before .before .args in
+    row-refused (a .c) (a .rows .now) (a .lines .now) (a .symbol) _ (c .before .before .before .find-row .ensures) (λ e. c .before .if1 .taken (c .before .before .number .ensures ∙ e)) _ (c .nothing .ensures)
 
 get-requires : tie.Need-get-requires
 get-requires c κs = search needs
@@ -34,7 +35,9 @@ shown-requires : tie.Need-shown-requires
 shown-requires c κs = search needs
 
 returns-2 : tie.Need-returns-2
-returns-2 c = row-there (c .before .before .before .before .before .before .before .before .args .c) (c .before .before .before .before .before .before .before .before .args .rows .now) (c .before .before .before .before .before .before .before .before .args .lines .now) (c .before .before .before .before .before .before .before .before .args .symbol) _ (c .before .before .before .before .before .find-row .ensures) (sym (c .before .before .before .before .number .ensures) ∙ c .before .before .before .if1 .left) _ _ _ (c .before .before .get .ensures) (c .before .walk .ensures) (c .shown .ensures)
+returns-2 c =
+    let a = c .before .before .before .before .before .before .before .before .args in
+    row-there (a .c) (a .rows .now) (a .lines .now) (a .symbol) _ (c .before .before .before .before .before .find-row .ensures) (sym (c .before .before .before .before .number .ensures) ∙ c .before .before .before .if1 .left) _ _ _ (c .before .before .get .ensures) (c .before .walk .ensures) (c .shown .ensures)
 
 pub row-spec : {M : Type 1} → statement M
 row-spec =

@@ -9,7 +9,6 @@ use Rattle.book.proofs.Sound.{Within, sound-gives}
 use Rattle.table.proofs.Tables.{Wanted, number-wanted}
 use Rattle.book.proofs.Steps.{refused-said, refused-rows, refused-lines, taken-said, taken-rows, taken-lines}
 use borrow.Author.Needs.{needs}
-use borrow.Author.Needs.{needs}
 use Rattle.book.proofs.use_number.Statement.{statement}
 use Rattle.book.proofs.use_number.Tie as tie
 

@@ -2,7 +2,6 @@
 -- Assumes nothing.
 use borrow.Author.Tests.{lt-ltb, le-ltb}
 use borrow.Author.Needs.{needs}
-use borrow.Author.Needs.{needs}
 use Rattle.walk.proofs.lowered.Statement.{statement}
 use Rattle.walk.proofs.lowered.Tie as tie
 

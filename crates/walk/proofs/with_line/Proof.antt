@@ -10,7 +10,6 @@ use Rattle.walk.specs.declared.Figures.{Figures}
 use Rattle.walk.specs.Figures.{sold}
 use Rattle.walk.proofs.Laws.{tally-dead, tally-other, tally-done}
 use borrow.Author.Needs.{needs}
-use borrow.Author.Needs.{needs}
 use Rattle.walk.proofs.with_line.Statement.{statement}
 use Rattle.walk.proofs.with_line.Tie as tie
 

@@ -2,7 +2,6 @@
 -- Assumes nothing.
 use Rattle.walk.specs.Figures.{sold}
 use borrow.Author.Needs.{needs}
-use borrow.Author.Needs.{needs}
 use Rattle.walk.proofs.with_sale.Statement.{statement}
 use Rattle.walk.proofs.with_sale.Tie as tie
 

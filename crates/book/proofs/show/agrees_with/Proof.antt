@@ -1,7 +1,6 @@
 -- `book::show::agrees_with` meets its contract.
 -- Assumes nothing.
 use borrow.Author.Needs.{needs}
-use borrow.Author.Needs.{needs}
 use Rattle.book.proofs.show.agrees_with.Statement.{statement}
 use Rattle.book.proofs.show.agrees_with.Tie as tie
 

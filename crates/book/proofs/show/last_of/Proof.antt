@@ -1,7 +1,6 @@
 -- `book::show::last_of` meets its contract.
 -- Assumes nothing.
 use borrow.Author.Needs.{needs}
-use borrow.Author.Needs.{needs}
 use Rattle.book.proofs.show.last_of.Statement.{statement}
 use Rattle.book.proofs.show.last_of.Tie as tie
 

@@ -8,7 +8,6 @@ use mir.Facts.{toZ-ofZ}
 use Rattle.book.specs.declared.show.Net.the-variants.{Amount}
 use Rattle.book.proofs.Signed.{net-fits, net-is}
 use borrow.Author.Needs.{needs}
-use borrow.Author.Needs.{needs}
 use Rattle.book.proofs.show.net_of.Statement.{statement}
 use Rattle.book.proofs.show.net_of.Tie as tie
 

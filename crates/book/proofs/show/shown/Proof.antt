@@ -2,7 +2,6 @@
 -- Assumes nothing.
 use Rattle.book.specs.Showing.{shownOf}
 use borrow.Author.Needs.{needs}
-use borrow.Author.Needs.{needs}
 use Rattle.book.proofs.show.shown.Statement.{statement}
 use Rattle.book.proofs.show.shown.Tie as tie
 

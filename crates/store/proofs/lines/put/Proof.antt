@@ -4,7 +4,6 @@ use mathlib.Core.Path.{sym, _∙_}
 use Rattle.store.proofs.Laws.{inside, outside}
 use Rattle.store.specs.Lines.{withLine}
 use borrow.Author.Needs.{needs}
-use borrow.Author.Needs.{needs}
 use Rattle.store.proofs.lines.put.Statement.{statement}
 use Rattle.store.proofs.lines.put.Tie as tie
 

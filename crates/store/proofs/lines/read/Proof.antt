@@ -2,7 +2,6 @@
 -- Assumes nothing.
 use Rattle.store.specs.Lines.{lineFrom}
 use borrow.Author.Needs.{needs}
-use borrow.Author.Needs.{needs}
 use Rattle.store.proofs.lines.read.Statement.{statement}
 use Rattle.store.proofs.lines.read.Tie as tie
 

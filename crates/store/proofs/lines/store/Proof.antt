@@ -5,7 +5,6 @@ use native.Mathlib.Omega.{arith}
 use lib.ListN.{length}
 use Rattle.store.proofs.Laws.{line-stored}
 use borrow.Author.Needs.{needs}
-use borrow.Author.Needs.{needs}
 use Rattle.store.proofs.lines.store.Statement.{statement}
 use Rattle.store.proofs.lines.store.Tie as tie
 

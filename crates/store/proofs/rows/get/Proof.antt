@@ -4,7 +4,6 @@ use mathlib.Core.Path.{sym, _∙_}
 use Rattle.store.proofs.Laws.{inside, outside}
 use Rattle.store.specs.Rows.{rowIn}
 use borrow.Author.Needs.{needs}
-use borrow.Author.Needs.{needs}
 use Rattle.store.proofs.rows.get.Statement.{statement}
 use Rattle.store.proofs.rows.get.Tie as tie
 

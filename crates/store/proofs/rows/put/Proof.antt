@@ -6,7 +6,6 @@ use lib.ListN.{length}
 use Rattle.store.proofs.Laws.{inside, outside, row-stored}
 use Rattle.store.specs.Rows.{inRow}
 use borrow.Author.Needs.{needs}
-use borrow.Author.Needs.{needs}
 use Rattle.store.proofs.rows.put.Statement.{statement}
 use Rattle.store.proofs.rows.put.Tie as tie
 

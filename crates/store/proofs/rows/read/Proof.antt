@@ -2,7 +2,6 @@
 -- Assumes nothing.
 use Rattle.store.specs.Rows.{rowFrom}
 use borrow.Author.Needs.{needs}
-use borrow.Author.Needs.{needs}
 use Rattle.store.proofs.rows.read.Statement.{statement}
 use Rattle.store.proofs.rows.read.Tie as tie
 

@@ -5,7 +5,6 @@ use Prim.Native.Nat.{_*_}
 use Rattle.store.proofs.Laws.{inside, outside, report-stored}
 use Rattle.store.specs.Rows.{inRow}
 use borrow.Author.Needs.{needs}
-use borrow.Author.Needs.{needs}
 use Rattle.store.proofs.rows.report.Statement.{statement}
 use Rattle.store.proofs.rows.report.Tie as tie
 

@@ -4,7 +4,6 @@ use mathlib.Core.Path.{sym, _∙_}
 use borrow.Author.Tests.{ne-eqb, eq-eqb}
 use Rattle.store.specs.Rows.{summaryAt}
 use borrow.Author.Needs.{needs}
-use borrow.Author.Needs.{needs}
 use Rattle.store.proofs.rows.summary_at.Statement.{statement}
 use Rattle.store.proofs.rows.summary_at.Tie as tie
 

@@ -4,7 +4,6 @@ use mathlib.Core.Path.{_≡_}
 use lib.ListN.{length}
 use Rattle.table.proofs.Laws.{match-is}
 use borrow.Author.Needs.{needs}
-use borrow.Author.Needs.{needs}
 use Rattle.table.proofs.judge.is_match.Statement.{statement}
 use Rattle.table.proofs.judge.is_match.Tie as tie
 
@@ -39,7 +38,9 @@ same-at-requires-2 : tie.Need-same-at-requires-2
 same-at-requires-2 c κs = search needs
 
 returns : tie.Need-returns
-returns c = rw (c .same-at2 .ensures, c .before .before .before .before .before .before .before .same-at .ensures) (match-is (c .before .before .before .before .before .before .before .before .before .before .before .before .before .before .before .args .r) (c .before .before .before .before .before .before .before .before .before .before .before .before .before .before .before .args .l) (asked-symbol (c .before .before .before .before .before .before .before .before .before .before .before .before .before .before .before)) (asked-condition (c .before .before .before .before .before .before .before .before .before .before .before .before .before .before .before)) (line-symbol (c .before .before .before .before .before .before .before .before .before .before .before .before .before .before .before)) (line-condition (c .before .before .before .before .before .before .before .before .before .before .before .before .before .before .before)))
+returns c =
+    let a = c .before .before .before .before .before .before .before .before .before .before .before .before .before .before .before .args in
+    rw (c .same-at2 .ensures, c .before .before .before .before .before .before .before .same-at .ensures) (match-is (a .r) (a .l) (asked-symbol (c .before .before .before .before .before .before .before .before .before .before .before .before .before .before .before)) (asked-condition (c .before .before .before .before .before .before .before .before .before .before .before .before .before .before .before)) (line-symbol (c .before .before .before .before .before .before .before .before .before .before .before .before .before .before .before)) (line-condition (c .before .before .before .before .before .before .before .before .before .before .before .before .before .before .before)))
 
 pub is-match-spec : {M : Type 1} → statement M
 is-match-spec =

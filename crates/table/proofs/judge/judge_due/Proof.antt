@@ -4,7 +4,6 @@ use mathlib.Core.Path.{ap, sym, _∙_}
 use borrow.Author.Tests.{eq-eqb, ne-eqb, lt-ltb, le-ltb}
 use Rattle.table.specs.Working.{onRow, dueBy}
 use borrow.Author.Needs.{needs}
-use borrow.Author.Needs.{needs}
 use Rattle.table.proofs.judge.judge_due.Statement.{statement}
 use Rattle.table.proofs.judge.judge_due.Tie as tie
 

@@ -9,7 +9,6 @@ use Rattle.store.specs.Lines.{usedLines, lineWith}
 use Rattle.table.specs.Working.{madeBy}
 use Rattle.table.proofs.Laws.{made-none, made-found}
 use borrow.Author.Needs.{needs}
-use borrow.Author.Needs.{needs}
 use Rattle.table.proofs.judge.judge_made.Statement.{statement}
 use Rattle.table.proofs.judge.judge_made.Tie as tie
 
@@ -29,13 +28,19 @@ enum-known-i : tie.Need-enum-known-i
 enum-known-i c = search needs
 
 returns : tie.Need-returns
-returns c = made-none (c .before .before .before .before .before .before .before .before .before .before .args .r) (c .before .before .before .before .before .before .before .before .before .before .args .lines .now) (c .before .before .before .before .before .before .before .before .before .before .args .used) (c .before .before .before .before .before .before .if1 .taken) (sym (c .before .before .before .before .find .ensures ∙ ap (λ (k : List ℕ). lineWith k (usedLines (c .before .before .before .before .before .before .before .before .before .before .args .lines .now) (c .before .before .before .before .before .before .before .before .before .before .args .used))) (c .before .before .before .before .before .new-key .ensures)) ∙ c .before .before .enum-told .given .1) true (le-leb _ _ (rw (c .before .limit .ensures) at (c .if2 .taken)))
+returns c =
+    let a = c .before .before .before .before .before .before .before .before .before .before .args in
+    made-none (a .r) (a .lines .now) (a .used) (c .before .before .before .before .before .before .if1 .taken) (sym (c .before .before .before .before .find .ensures ∙ ap (λ (k : List ℕ). lineWith k (usedLines (a .lines .now) (a .used))) (c .before .before .before .before .before .new-key .ensures)) ∙ c .before .before .enum-told .given .1) true (le-leb _ _ (rw (c .before .limit .ensures) at (c .if2 .taken)))
 
 returns-2 : tie.Need-returns-2
-returns-2 c = made-none (c .before .before .before .before .before .before .before .before .before .before .args .r) (c .before .before .before .before .before .before .before .before .before .before .args .lines .now) (c .before .before .before .before .before .before .before .before .before .before .args .used) (c .before .before .before .before .before .before .if1 .taken) (sym (c .before .before .before .before .find .ensures ∙ ap (λ (k : List ℕ). lineWith k (usedLines (c .before .before .before .before .before .before .before .before .before .before .args .lines .now) (c .before .before .before .before .before .before .before .before .before .before .args .used))) (c .before .before .before .before .before .new-key .ensures)) ∙ c .before .before .enum-told .given .1) false (lt-leb _ _ (rw (c .before .limit .ensures) at (c .if2 .left)))
+returns-2 c =
+    let a = c .before .before .before .before .before .before .before .before .before .before .args in
+    made-none (a .r) (a .lines .now) (a .used) (c .before .before .before .before .before .before .if1 .taken) (sym (c .before .before .before .before .find .ensures ∙ ap (λ (k : List ℕ). lineWith k (usedLines (a .lines .now) (a .used))) (c .before .before .before .before .before .new-key .ensures)) ∙ c .before .before .enum-told .given .1) false (lt-leb _ _ (rw (c .before .limit .ensures) at (c .if2 .left)))
 
 returns-3 : tie.Need-returns-3
-returns-3 c = made-found (c .before .before .before .before .before .before .before .before .before .args .r) (c .before .before .before .before .before .before .before .before .before .args .lines .now) (c .before .before .before .before .before .before .before .before .before .args .used) (c .before .before .before .before .before .if1 .taken) _ (sym (c .before .before .before .find .ensures ∙ ap (λ (k : List ℕ). lineWith k (usedLines (c .before .before .before .before .before .before .before .before .before .args .lines .now) (c .before .before .before .before .before .before .before .before .before .args .used))) (c .before .before .before .before .new-key .ensures)) ∙ c .before .i .given .1)
+returns-3 c =
+    let a = c .before .before .before .before .before .before .before .before .before .args in
+    made-found (a .r) (a .lines .now) (a .used) (c .before .before .before .before .before .if1 .taken) _ (sym (c .before .before .before .find .ensures ∙ ap (λ (k : List ℕ). lineWith k (usedLines (a .lines .now) (a .used))) (c .before .before .before .before .new-key .ensures)) ∙ c .before .i .given .1)
 
 returns-4 : tie.Need-returns-4
 unfolding madeBy

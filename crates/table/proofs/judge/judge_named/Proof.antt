@@ -8,7 +8,6 @@ use Rattle.store.specs.Lines.{usedLines, lineWith}
 use Rattle.table.specs.Working.{namedAt, namedBy}
 use Rattle.table.proofs.Laws.{named-dead, named-live}
 use borrow.Author.Needs.{needs}
-use borrow.Author.Needs.{needs}
 use Rattle.table.proofs.judge.judge_named.Statement.{statement}
 use Rattle.table.proofs.judge.judge_named.Tie as tie
 
@@ -41,16 +40,24 @@ plainly-requires-3 c κs = search needs
 
 returns : tie.Need-returns
 unfolding namedBy
-returns c = c .plainly .ensures ∙ sym (ap (namedAt (c .before .before .before .before .before .before .args .r) (usedLines (c .before .before .before .before .before .before .args .lines .now) (c .before .before .before .before .before .before .args .used))) (sym (c .before .before .before .find .ensures ∙ ap (λ (k : List ℕ). lineWith k (usedLines (c .before .before .before .before .before .before .args .lines .now) (c .before .before .before .before .before .before .args .used))) (c .before .before .before .before .old-key .ensures)) ∙ c .before .enum-told .given .1))
+returns c =
+    let a = c .before .before .before .before .before .before .args in
+    c .plainly .ensures ∙ sym (ap (namedAt (a .r) (usedLines (a .lines .now) (a .used))) (sym (c .before .before .before .find .ensures ∙ ap (λ (k : List ℕ). lineWith k (usedLines (a .lines .now) (a .used))) (c .before .before .before .before .old-key .ensures)) ∙ c .before .enum-told .given .1))
 
 returns-2 : tie.Need-returns-2
-returns-2 c = sym (named-live (c .before .before .before .before .before .before .before .before .before .before .args .r) (c .before .before .before .before .before .before .before .before .before .before .args .lines .now) (c .before .before .before .before .before .before .before .before .before .before .args .used) _ (sym (c .before .before .before .before .before .before .before .find .ensures ∙ ap (λ (k : List ℕ). lineWith k (usedLines (c .before .before .before .before .before .before .before .before .before .before .args .lines .now) (c .before .before .before .before .before .before .before .before .before .before .args .used))) (c .before .before .before .before .before .before .before .before .old-key .ensures)) ∙ c .before .before .before .before .before .i .given .1) _ (c .before .before .before .get .ensures) (c .before .before .if1 .taken) true (sym (c .if2 .taken) ∙ c .before .is-match .ensures))
+returns-2 c =
+    let a = c .before .before .before .before .before .before .before .before .before .before .args in
+    sym (named-live (a .r) (a .lines .now) (a .used) _ (sym (c .before .before .before .before .before .before .before .find .ensures ∙ ap (λ (k : List ℕ). lineWith k (usedLines (a .lines .now) (a .used))) (c .before .before .before .before .before .before .before .before .old-key .ensures)) ∙ c .before .before .before .before .before .i .given .1) _ (c .before .before .before .get .ensures) (c .before .before .if1 .taken) true (sym (c .if2 .taken) ∙ c .before .is-match .ensures))
 
 returns-3 : tie.Need-returns-3
-returns-3 c = c .plainly2 .ensures ∙ sym (named-live (c .before .before .before .before .before .before .before .before .before .before .before .args .r) (c .before .before .before .before .before .before .before .before .before .before .before .args .lines .now) (c .before .before .before .before .before .before .before .before .before .before .before .args .used) _ (sym (c .before .before .before .before .before .before .before .before .find .ensures ∙ ap (λ (k : List ℕ). lineWith k (usedLines (c .before .before .before .before .before .before .before .before .before .before .before .args .lines .now) (c .before .before .before .before .before .before .before .before .before .before .before .args .used))) (c .before .before .before .before .before .before .before .before .before .old-key .ensures)) ∙ c .before .before .before .before .before .before .i .given .1) _ (c .before .before .before .before .get .ensures) (c .before .before .before .if1 .taken) false (sym (c .before .if2 .left) ∙ c .before .before .is-match .ensures))
+returns-3 c =
+    let a = c .before .before .before .before .before .before .before .before .before .before .before .args in
+    c .plainly2 .ensures ∙ sym (named-live (a .r) (a .lines .now) (a .used) _ (sym (c .before .before .before .before .before .before .before .before .find .ensures ∙ ap (λ (k : List ℕ). lineWith k (usedLines (a .lines .now) (a .used))) (c .before .before .before .before .before .before .before .before .before .old-key .ensures)) ∙ c .before .before .before .before .before .before .i .given .1) _ (c .before .before .before .before .get .ensures) (c .before .before .before .if1 .taken) false (sym (c .before .if2 .left) ∙ c .before .before .is-match .ensures))
 
 returns-4 : tie.Need-returns-4
-returns-4 c = c .plainly3 .ensures ∙ sym (named-dead (c .before .before .before .before .before .before .before .before .before .args .r) (c .before .before .before .before .before .before .before .before .before .args .lines .now) (c .before .before .before .before .before .before .before .before .before .args .used) _ (sym (c .before .before .before .before .before .before .find .ensures ∙ ap (λ (k : List ℕ). lineWith k (usedLines (c .before .before .before .before .before .before .before .before .before .args .lines .now) (c .before .before .before .before .before .before .before .before .before .args .used))) (c .before .before .before .before .before .before .before .old-key .ensures)) ∙ c .before .before .before .before .i .given .1) _ (c .before .before .get .ensures) (c .before .if1 .left))
+returns-4 c =
+    let a = c .before .before .before .before .before .before .before .before .before .args in
+    c .plainly3 .ensures ∙ sym (named-dead (a .r) (a .lines .now) (a .used) _ (sym (c .before .before .before .before .before .before .find .ensures ∙ ap (λ (k : List ℕ). lineWith k (usedLines (a .lines .now) (a .used))) (c .before .before .before .before .before .before .before .old-key .ensures)) ∙ c .before .before .before .before .i .given .1) _ (c .before .before .get .ensures) (c .before .if1 .left))
 
 pub judge-named-spec : {M : Type 1} → statement M
 judge-named-spec =

@@ -4,7 +4,6 @@ use mathlib.Core.Path.{ap, sym, _∙_}
 use Rattle.table.specs.Working.{plainly, tradeBy}
 use Rattle.table.proofs.Laws.{refused-there, done-there}
 use borrow.Author.Needs.{needs}
-use borrow.Author.Needs.{needs}
 use Rattle.table.proofs.judge.judge_trade.Statement.{statement}
 use Rattle.table.proofs.judge.judge_trade.Tie as tie
 

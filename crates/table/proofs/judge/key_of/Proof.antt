@@ -4,7 +4,6 @@ use mathlib.Core.Path.{_≡_}
 use lib.ListN.{length}
 use Rattle.table.proofs.Laws.{key-made}
 use borrow.Author.Needs.{needs}
-use borrow.Author.Needs.{needs}
 use Rattle.table.proofs.judge.key_of.Statement.{statement}
 use Rattle.table.proofs.judge.key_of.Tie as tie
 

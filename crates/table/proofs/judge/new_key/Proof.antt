@@ -4,7 +4,6 @@ use mathlib.Core.Path.{ap, _∙_}
 use mathlib.Core.List.{_∷_}
 use Rattle.message.specs.declared.Sale.{Sale}
 use borrow.Author.Needs.{needs}
-use borrow.Author.Needs.{needs}
 use Rattle.table.proofs.judge.new_key.Statement.{statement}
 use Rattle.table.proofs.judge.new_key.Tie as tie
 

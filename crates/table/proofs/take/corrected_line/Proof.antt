@@ -1,7 +1,6 @@
 -- `table::take::corrected_line` meets its contract.
 -- Assumes nothing.
 use borrow.Author.Needs.{needs}
-use borrow.Author.Needs.{needs}
 use Rattle.table.proofs.take.corrected_line.Statement.{statement}
 use Rattle.table.proofs.take.corrected_line.Tie as tie
 

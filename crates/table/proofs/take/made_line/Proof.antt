@@ -1,7 +1,6 @@
 -- `table::take::made_line` meets its contract.
 -- Assumes nothing.
 use borrow.Author.Needs.{needs}
-use borrow.Author.Needs.{needs}
 use Rattle.table.proofs.take.made_line.Statement.{statement}
 use Rattle.table.proofs.take.made_line.Tie as tie
 

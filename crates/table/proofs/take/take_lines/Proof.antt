@@ -6,7 +6,6 @@ use Rattle.table.proofs.Laws.{corrected-stored, by-correction}
 use Rattle.store.specs.Lines.{withLine}
 use Rattle.table.specs.Taking.{linesBy}
 use borrow.Author.Needs.{needs}
-use borrow.Author.Needs.{needs}
 use Rattle.table.proofs.take.take_lines.Statement.{statement}
 use Rattle.table.proofs.take.take_lines.Tie as tie
 
@@ -21,7 +20,9 @@ same-length c = search needs
 
 returns : tie.Need-returns
 unfolding linesBy
-returns c = simp (eq-eqb (c .before .before .before .before .before .before .before .before .args .r .letter) 84 (c .before .before .before .before .before .if1 .taken)) (c .before .before .put .ensures ∙ ap (withLine (c .before .before .before .before .before .before .before .before .args .lines .now) (c .before .before .before .before .before .before .before .before .args .used)) (c .before .before .before .made-line .ensures))
+returns c =
+    let a = c .before .before .before .before .before .before .before .before .args in
+    simp (eq-eqb (a .r .letter) 84 (c .before .before .before .before .before .if1 .taken)) (c .before .before .put .ensures ∙ ap (withLine (a .lines .now) (a .used)) (c .before .before .before .made-line .ensures))
 
 kill-requires : tie.Need-kill-requires
 kill-requires c κs = search needs

@@ -3,7 +3,6 @@
 use borrow.Author.Tests.{eq-eqb, ne-eqb}
 use Rattle.table.specs.Taking.{rowsBy}
 use borrow.Author.Needs.{needs}
-use borrow.Author.Needs.{needs}
 use Rattle.table.proofs.take.take_rows.Statement.{statement}
 use Rattle.table.proofs.take.take_rows.Tie as tie
 

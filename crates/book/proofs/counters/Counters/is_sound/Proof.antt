@@ -3,7 +3,6 @@
 use borrow.Author.Tests.{lt-leb, le-leb}
 use Rattle.book.specs.Counting.{sound}
 use borrow.Author.Needs.{needs}
-use borrow.Author.Needs.{needs}
 use Rattle.book.proofs.counters.Counters.is_sound.Statement.{statement}
 use Rattle.book.proofs.counters.Counters.is_sound.Tie as tie
 

@@ -6,7 +6,6 @@ use borrow.Author.Tests.{eq-eqb, ne-eqb}
 use Rattle.book.specs.declared.counters.Counters.{Counters}
 use Rattle.book.specs.Counting.{takenBy}
 use borrow.Author.Needs.{needs}
-use borrow.Author.Needs.{needs}
 use Rattle.book.proofs.counters.Counters.take.Statement.{statement}
 use Rattle.book.proofs.counters.Counters.take.Tie as tie
 
