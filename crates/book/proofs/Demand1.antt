@@ -35,7 +35,7 @@ use Rattle.book.specs.Counting.{usedUp, sound, Unsound}
 use Rattle.table.specs.Messages.{isEvent, isTrade, isCancel, isCorrection, isSummary, namesOld, makesNew, oldKey}
 use Rattle.table.specs.Table.{symbolsOf, isFound, listed, says, Case, lowest, inBook, numberTable, contentTable, listTable, rowTable}
 use Rattle.table.specs.Taking.{madeLine, correctedLine, linesBy, rowsBy, indexOf}
-use Rattle.book.specs.Showing.{shownOf, nothingShown}
+use Rattle.show.specs.Showing.{shownOf, nothingShown}
 use Rattle.book.specs.Calls.{listAnswer, listSaid, listRows, deliverAnswer, deliverSaid, deliverRows, deliverLines, rowAnswer, rowShown}
 use Rattle.table.proofs.Tables.{listed-found, Wanted, number-content, number-refused, number-taken}
 use Rattle.book.proofs.Sound.{sound-gives, sound-exactly}

@@ -1,4 +1,3 @@
-pub mod Signed
 pub mod Sound
 pub mod Demand1
 pub mod Steps

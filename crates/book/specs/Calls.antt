@@ -19,7 +19,7 @@ use Rattle.book.specs.Counting.{usedUp, oneRowMore, takenBy, sound}
 use Rattle.table.specs.Messages.{oldKey}
 use Rattle.table.specs.Table.{symbolsOf, inBook, numberTable, contentTable, listTable, rowTable}
 use Rattle.table.specs.Taking.{linesBy, rowsBy, indexOf}
-use Rattle.book.specs.Showing.{shownOf, nothingShown}
+use Rattle.show.specs.Showing.{shownOf, nothingShown}
 
 abbrev pub said : ℕ → Counters → Said
 said n c = record { answer = answerOf n; counters = c }

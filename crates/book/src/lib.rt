@@ -1,7 +1,6 @@
 // The book of one day: counters by value, rows and lines in lent bytes. No call counts on its caller for a check, and a
 // refused one leaves every lent byte as it was.
 pub mod counters;
-pub mod show;
 
 use counters::Counters;
 use message::answer;

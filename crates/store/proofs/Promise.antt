@@ -12,7 +12,6 @@ use borrow.Fn.World.{ArgsD}
 use borrow.Fn.Kinds.{endedOf}
 use denote.Triple.Clauses.{AtExit}
 use denote.Ref.{now}
-use Rattle.store.proofs.lesser.Reads as lesser-reads
 use Rattle.store.proofs.lines.limit.Reads as line-limit-reads
 use Rattle.store.proofs.rows.limit.Reads as row-limit-reads
 use Rattle.store.proofs.lines.find as line-find
@@ -42,9 +41,6 @@ use Rattle.store.proofs.rows.report.Kinds as row-report-kinds
 use Rattle.store.proofs.rows.summarise as row-summarise
 use Rattle.store.proofs.rows.summarise.Reads as row-summarise-reads
 use Rattle.store.proofs.rows.summarise.Kinds as row-summarise-kinds
-
-pub lesser-one : (a : ℕ) (b : ℕ) (a₁ a₂ : ℕ) (b₁ b₂ : ℕ) (r r′ : ℕ) → lesser-reads.Learnt tt (a, (b, tt)) r (a₁, (b₁, tt)) → lesser-reads.Learnt tt (a, (b, tt)) r′ (a₂, (b₂, tt)) → r ≡ r′
-lesser-one a b a₁ a₂ b₁ b₂ r r′ h h′ = h ∙ sym h′
 
 pub line-limit-one : (room : ℕ) (room₁ room₂ : ℕ) (r r′ : ℕ) → line-limit-reads.Learnt tt (room, tt) r (room₁, tt) → line-limit-reads.Learnt tt (room, tt) r′ (room₂, tt) → r ≡ r′
 line-limit-one room room₁ room₂ r r′ h h′ = h ∙ sym h′

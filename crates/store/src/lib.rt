@@ -12,8 +12,7 @@ pub enum Found {
     At(usize),
 }
 
-// How much of what is claimed is there: the lesser of two counts.
-pub fn lesser(a: usize, b: usize) -> usize
+fn lesser(a: usize, b: usize) -> usize
     ensures { λ r. ⌜ r ≡ min a b ⌝ }
 {
     if a < b { a } else { b }

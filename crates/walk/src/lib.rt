@@ -122,7 +122,7 @@ fn with_line(t: Figures, lines: &[u8], at: usize, symbol: [u8; 8]) -> Figures
 pub fn walk(lines: &[u8], used: usize, symbol: [u8; 8]) -> Figures
     ensures { λ r. ⌜ r ≡ figuresOf symbol (usedLines (now (lines .entry)) used) ⌝ }
 {
-    let n = store::lesser(used, store::lines::limit(lines.len()));
+    let limit = store::lines::limit(lines.len());
     let mut t = Figures {
         volume: 0,
         count: 0,
@@ -131,7 +131,10 @@ pub fn walk(lines: &[u8], used: usize, symbol: [u8; 8]) -> Figures
         last: Last::NoLast,
     };
     let mut i: usize = 0;
-    while i < n {
+    while i < used {
+        if limit <= i {
+            return t;
+        }
         t = with_line(t, lines, i * CELL, symbol);
         i += 1;
     }

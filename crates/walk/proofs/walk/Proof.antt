@@ -1,7 +1,7 @@
--- `walk::walk` meets its contract.
+-- `walk::walk` meets its contract. The loop: what is left of the lines, with the figures so far, makes the whole.
 -- Assumes nothing.
 use mathlib.Core.Path.{_≡_, sym, _∙_}
-use Prim.Native.Nat.{_-_, _*_, _≤_}
+use Prim.Native.Nat.{_-_, _*_, _≤_, min}
 use native.Mathlib.Nat.{sub-zero}
 use native.Mathlib.Omega.{arith}
 use lib.ListN.{length}
@@ -14,20 +14,22 @@ use Rattle.walk.proofs.walk.Statement.{statement}
 use Rattle.walk.proofs.walk.Tie as tie
 
 abbrev Inv-loop : tie.InvT-loop
-Inv-loop lines used symbol n t₀ i₀ t i = (i ≤ n) × (n ≤ lineLimit (length lines)) × (t .volume ≤ i * 4294967295) × (t .count ≤ i) × (fold (tally symbol) t (tab (lineAt lines) i (n - i)) ≡ figuresOf symbol (usedLines lines used))
+Inv-loop lines used symbol limit t₀ i₀ t i = (limit ≡ lineLimit (length lines)) × (i ≤ min used limit) × (t .volume ≤ i * 4294967295) × (t .count ≤ i) × (fold (tally symbol) t (tab (lineAt lines) i (min used (lineLimit (length lines)) - i)) ≡ figuresOf symbol (usedLines lines used))
 
 abbrev μ-loop : tie.MeasureT-loop
-μ-loop lines used symbol n t₀ i₀ t i = n - i
+μ-loop lines used symbol limit t₀ i₀ t i = used - i
 
 limit-requires : tie.Need-limit-requires Inv-loop μ-loop
 limit-requires c κs = search needs
 
-lesser-requires : tie.Need-lesser-requires Inv-loop μ-loop
-lesser-requires c κs = search needs
-
 loop-holds : tie.Need-loop-holds Inv-loop μ-loop
 unfolding usedLines figuresOf
-loop-holds c = (omega arith, omega (arith, c .lesser .ensures, c .before .limit .ensures), omega arith, omega arith, rw (sub-zero, c .lesser .ensures, c .before .limit .ensures))
+loop-holds c = (c .limit .ensures, omega arith, omega arith, omega arith, rw sub-zero)
+
+returns : tie.Need-returns Inv-loop μ-loop
+returns c =
+    let l = c .before .before .loop in
+    sym (fold-end _ _ _ _ _ (omega (arith, l .inv .0, c .if1 .taken))) ∙ l .inv .4
 
 mul-with-line : tie.Need-mul-with-line Inv-loop μ-loop
 mul-with-line c = omega arith
@@ -43,11 +45,13 @@ loop-less c = omega arith
 
 loop-again : tie.Need-loop-again Inv-loop μ-loop
 loop-again c =
-    let l = c .before .before .loop in
-    (omega arith, l .inv .1, omega (arith, c .with-line .ensures .1), omega (arith, c .with-line .ensures .1), rw (c .with-line .ensures .0) (sym (fold-step _ _ _ _ _ (c .before .loop-test .taken)) ∙ l .inv .4))
+    let l = c .before .before .before .loop in
+    (l .inv .0, omega arith, omega (arith, c .with-line .ensures .1), omega (arith, c .with-line .ensures .1), rw (c .with-line .ensures .0) (sym (fold-step _ _ _ _ _ (omega (arith, l .inv .0, c .before .before .loop-test .taken, c .before .if1 .left))) ∙ l .inv .4))
 
-returns : tie.Need-returns Inv-loop μ-loop
-returns c = sym (fold-end _ _ _ _ _ (c .loop-test .left)) ∙ c .before .loop .inv .4
+returns-2 : tie.Need-returns-2 Inv-loop μ-loop
+returns-2 c =
+    let l = c .before .loop in
+    sym (fold-end _ _ _ _ _ (omega (arith, c .loop-test .left))) ∙ l .inv .4
 
 pub walk-spec : {M : Type 1} → statement M
 walk-spec =
@@ -56,11 +60,11 @@ walk-spec =
     Inv-loop
     μ-loop
     limit-requires
-    lesser-requires
     loop-holds
+    returns
     mul-with-line
     with-line-requires
     add-i
     loop-less
     loop-again
-    returns)
+    returns-2)

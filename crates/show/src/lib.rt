@@ -6,7 +6,7 @@ use walk::Figures;
 use walk::Last;
 use walk::Price;
 ghost use mathlib.Core.Path.{_≡_};
-ghost use Rattle.book.specs.Showing as Showing;
+ghost use Rattle.show.specs.Showing as Showing;
 
 // Last less close, where both are known.
 pub enum Net {
@@ -71,7 +71,7 @@ fn agrees_with(s: Summary, high: Price, low: Price) -> bool
     }
 }
 
-pub(crate) fn shown(r: Row, f: Figures) -> RowShown
+pub fn shown(r: Row, f: Figures) -> RowShown
     ensures { λ s. ⌜ s ≡ Showing.shownOf r f ⌝ }
 {
     let newest = f.last;
@@ -96,7 +96,7 @@ pub(crate) fn shown(r: Row, f: Figures) -> RowShown
 }
 
 // What a refused reading hands back.
-pub(crate) fn nothing() -> RowShown
+pub fn nothing() -> RowShown
     ensures { λ s. ⌜ s ≡ Showing.nothingShown ⌝ }
 {
     RowShown {

@@ -1,15 +1,15 @@
--- `book::show::net_of` meets its contract.
+-- `show::net_of` meets its contract.
 -- Assumes nothing.
 use Prim.Native.Nat.{_<_, _^_}
 use mathlib.Core.Path.{ap, _∙_}
 use native.Mathlib.Omega.{arith}
 use borrow.Author.Tests.{eq-eqb, ne-eqb}
 use mir.Facts.{toZ-ofZ}
-use Rattle.book.specs.declared.show.Net.the-variants.{Amount}
-use Rattle.book.proofs.Signed.{net-fits, net-is}
+use Rattle.show.specs.declared.Net.the-variants.{Amount}
+use Rattle.show.proofs.Signed.{net-fits, net-is}
 use borrow.Author.Needs.{needs}
-use Rattle.book.proofs.show.net_of.Statement.{statement}
-use Rattle.book.proofs.show.net_of.Tie as tie
+use Rattle.show.proofs.net_of.Statement.{statement}
+use Rattle.show.proofs.net_of.Tie as tie
 
 enum-told : tie.Need-enum-told
 enum-told c = search needs

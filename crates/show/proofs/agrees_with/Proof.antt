@@ -1,8 +1,8 @@
--- `book::show::agrees_with` meets its contract.
+-- `show::agrees_with` meets its contract.
 -- Assumes nothing.
 use borrow.Author.Needs.{needs}
-use Rattle.book.proofs.show.agrees_with.Statement.{statement}
-use Rattle.book.proofs.show.agrees_with.Tie as tie
+use Rattle.show.proofs.agrees_with.Statement.{statement}
+use Rattle.show.proofs.agrees_with.Tie as tie
 
 enum-told : tie.Need-enum-told
 enum-told c = search needs

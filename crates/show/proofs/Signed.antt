@@ -11,8 +11,8 @@ use mir.Syntax.{w64}
 use mir.Val.{SFits, toZ}
 use mir.Facts.{toZ-pos}
 use Rattle.walk.specs.declared.Price.the-variants.{Of}
-use Rattle.book.specs.declared.show.Net.the-variants.{Amount}
-use Rattle.book.specs.Showing.{netOf}
+use Rattle.show.specs.declared.Net.the-variants.{Amount}
+use Rattle.show.specs.Showing.{netOf}
 
 size-of : (t : Bool) (x y n : ℕ) → x < n → y < n → mag (cond t (negsuc x) (pos y)) < n
 size-of true x y n hx hy = hx

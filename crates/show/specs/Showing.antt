@@ -14,9 +14,9 @@ use Rattle.walk.specs.declared.Price.the-variants.{Absent, Of}
 use Rattle.walk.specs.declared.Last.{Last}
 use Rattle.walk.specs.declared.Last.the-variants.{NoLast, Trade}
 use Rattle.walk.specs.declared.Figures.{Figures}
-use Rattle.book.specs.declared.show.Net.{Net}
-use Rattle.book.specs.declared.show.Net.the-variants.{NoNet, Amount}
-use Rattle.book.specs.declared.show.RowShown.{RowShown}
+use Rattle.show.specs.declared.Net.{Net}
+use Rattle.show.specs.declared.Net.the-variants.{NoNet, Amount}
+use Rattle.show.specs.declared.RowShown.{RowShown}
 
 -- last is the price of the newest trade that may be the last
 abbrev pub lastOf : Last → Price

@@ -1,9 +1,9 @@
--- `book::show::shown` meets its contract.
+-- `show::shown` meets its contract.
 -- Assumes nothing.
-use Rattle.book.specs.Showing.{shownOf}
+use Rattle.show.specs.Showing.{shownOf}
 use borrow.Author.Needs.{needs}
-use Rattle.book.proofs.show.shown.Statement.{statement}
-use Rattle.book.proofs.show.shown.Tie as tie
+use Rattle.show.proofs.shown.Statement.{statement}
+use Rattle.show.proofs.shown.Tie as tie
 
 last-of-requires : tie.Need-last-of-requires
 last-of-requires c κs = search needs

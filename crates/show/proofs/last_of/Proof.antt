@@ -1,8 +1,8 @@
--- `book::show::last_of` meets its contract.
+-- `show::last_of` meets its contract.
 -- Assumes nothing.
 use borrow.Author.Needs.{needs}
-use Rattle.book.proofs.show.last_of.Statement.{statement}
-use Rattle.book.proofs.show.last_of.Tie as tie
+use Rattle.show.proofs.last_of.Statement.{statement}
+use Rattle.show.proofs.last_of.Tie as tie
 
 enum-told : tie.Need-enum-told
 enum-told c = search needs
