@@ -194,7 +194,7 @@ kept-fits number m k h z = go (ltb k (lineLimit (length m)))
     go false = z
 
 module _ (r : Record) (f : RecordFits r) where
-  made-fits : (n : ℕ) → n < 2 ^ 32 → LineFits (madeLine n r)
+  pub made-fits : (n : ℕ) → n < 2 ^ 32 → LineFits (madeLine n r)
   made-fits n h =
       record {
         key = ap suc (f .sale .control);
@@ -207,7 +207,7 @@ module _ (r : Record) (f : RecordFits r) where
       }
 
   -- the old line's place and time stand in bytes
-  corrected-fits : isCorrection r ≡ true → (m : List ℕ) (k : ℕ) → Bytes m → LineFits (correctedLine (lineIn m k) r)
+  pub corrected-fits : isCorrection r ≡ true → (m : List ℕ) (k : ℕ) → Bytes m → LineFits (correctedLine (lineIn m k) r)
   unfolding lineFrom
   corrected-fits e m k b =
       record {

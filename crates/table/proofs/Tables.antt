@@ -143,7 +143,7 @@ listing-rising w symbols limit symbol close = (lit< tt, (lit< tt, (lit< tt, (lit
 
 -- ---- searching rows is asking the listed symbols
 
-found-counted : {A : Type 0} (serves : A → Bool) (xs : List A) (i j : ℕ) → isFound (first serves xs i) ≡ isFound (first serves xs j)
+pub found-counted : {A : Type 0} (serves : A → Bool) (xs : List A) (i j : ℕ) → isFound (first serves xs i) ≡ isFound (first serves xs j)
 unfolding first
 found-counted serves [] i j = refl
 found-counted serves (x ∷ xs) i j = go (serves x) (found-counted serves xs (suc i) (suc j))

@@ -1,0 +1,10 @@
+pub mod Letters
+pub mod Steps
+pub mod Lent
+pub mod InOrder
+pub mod Lines
+pub mod Sim
+pub mod Once
+pub mod Wall
+pub mod Demand3
+pub mod Runs

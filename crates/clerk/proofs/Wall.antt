@@ -1,0 +1,130 @@
+-- What a row's reading tells, of a book that is the clerk's: what he shows of a listed symbol, and 7 of any other.
+-- Assumes nothing.
+use Prim.Native.Nat.{ℕ}
+use mathlib.Core.Path.{_≡_, refl, sym, ap, subst, _∙_}
+use mathlib.Core.Logic.{⊎-elim}
+use mathlib.Core.Bool.{Bool, true, false, cond, not, _||_, true≢false}
+use mathlib.Core.List.{List, [], _∷_, map, List·Memᴰ, List·Memᴰ·head, List·Memᴰ·tail, List·Memᴰ·not-nil, List·Memᴰ·cases-cons}
+use native.Mathlib.Omega.{arith}
+use lib.ListN.{length, getD}
+use Rattle.octets.specs.Run.{same}
+use Rattle.octets.proofs.Trips.{same-is}
+use Rattle.message.specs.Answers.{answerOf}
+use Rattle.message.specs.declared.answer.Answer.{Answer}
+use Rattle.store.specs.declared.Found.{Found}
+use Rattle.store.specs.declared.Found.the-variants.{Nothing, At}
+use Rattle.store.specs.declared.lines.Line.{Line}
+use Rattle.store.specs.declared.rows.Row.{Row}
+use Rattle.store.specs.Lines.{usedLines}
+use Rattle.store.specs.Rows.{usedRows, isOf, rowWith, noRow}
+use Rattle.table.specs.Table.{symbolsOf, listed}
+use Rattle.walk.specs.Meaning.{Are}
+use Rattle.book.specs.declared.counters.Counters.{Counters}
+use Rattle.book.specs.declared.Shown.{Shown}
+use Rattle.show.specs.declared.RowShown.{RowShown}
+use Rattle.book.specs.Counting.{sound}
+use Rattle.show.specs.Showing.{shownOf, nothingShown}
+use Rattle.book.specs.Calls.{rowAnswer, rowShown}
+use Rattle.book.proofs.Demand1.{refused-keeps, RowReads, row-reads}
+use Rattle.clerk.specs.Clerk.{Listing, symbolsIn, Taken, tradesOf, rowOf, shownBy}
+use Rattle.clerk.specs.Claims.{NoRepeat}
+use Rattle.clerk.proofs.Lines.{or-false-left, or-false-right, same-refl, same-comm, up, first-hit, first-miss}
+use Rattle.clerk.proofs.Sim.{symbols-are}
+use Rattle.clerk.proofs.Once.{clerk-figures-one}
+
+-- the row that was found
+abbrev rowFound : List Row → Found → Row
+rowFound ws Nothing = noRow
+rowFound ws (At i) = getD ws i noRow
+
+found-up : (w : Row) (ws : List Row) (f : Found) → rowFound (w ∷ ws) (up f) ≡ rowFound ws f
+found-up w ws Nothing = refl
+found-up w ws (At i) = refl
+
+-- ---- a listed symbol
+
+-- a symbol that differs from each of a sheet's differs from that of each listing on it
+other-symbol : (k : List ℕ) (sheet : List Listing) (l : Listing) → listed k (symbolsIn sheet) ≡ false → List·Memᴰ l sheet → same (l .symbol) k ≡ false
+other-symbol k [] l h m = absurd (List·Memᴰ·not-nil m)
+other-symbol k (x ∷ sheet) l h m =
+    ⊎-elim (λ (q : l ≡ x). ap (λ (y : Listing). same (y .symbol) k) q ∙ or-false-left (same (x .symbol) k) _ h)
+    (λ (t : List·Memᴰ l sheet). other-symbol k sheet l (or-false-right (same (x .symbol) k) _ h) t)
+    (List·Memᴰ·cases-cons m)
+
+pub on-sheet : (sheet : List Listing) (l : Listing) → List·Memᴰ l sheet → listed (l .symbol) (symbolsIn sheet) ≡ true
+on-sheet sheet l m = go (listed (l .symbol) (symbolsIn sheet)) refl
+  where
+    go : (t : Bool) → listed (l .symbol) (symbolsIn sheet) ≡ t → listed (l .symbol) (symbolsIn sheet) ≡ true
+    go true t = t
+    go false t = absurd (true≢false (sym (same-refl (l .symbol)) ∙ other-symbol (l .symbol) sheet l t m))
+
+-- and a symbol that is listed is that of a listing
+pub of-sheet : (symbol : List ℕ) (sheet : List Listing) → listed symbol (symbolsIn sheet) ≡ true → (x : Listing) × List·Memᴰ x sheet × (symbol ≡ x .symbol)
+of-sheet symbol [] h = absurd (true≢false (sym h))
+of-sheet symbol (x ∷ sheet) h = go (same (x .symbol) symbol) refl h (λ q. of-sheet symbol sheet q)
+  where
+    go : (t : Bool) → same (x .symbol) symbol ≡ t → (t || listed symbol (symbolsIn sheet)) ≡ true
+        → (listed symbol (symbolsIn sheet) ≡ true → (y : Listing) × List·Memᴰ y sheet × (symbol ≡ y .symbol)) → (y : Listing) × List·Memᴰ y (x ∷ sheet) × (symbol ≡ y .symbol)
+    go true t h f = (x, List·Memᴰ·head refl, sym (same-is (x .symbol) symbol .0 t))
+    go false t h f = let q = f h in (q .0, List·Memᴰ·tail (q .1), q .2)
+
+-- the first row of a listed symbol is its own
+found-row : (es : List Taken) (sheet : List Listing) (l : Listing) → NoRepeat (symbolsIn sheet) → List·Memᴰ l sheet
+    → rowFound (map (rowOf es) sheet) (rowWith (l .symbol) (map (rowOf es) sheet)) ≡ rowOf es l
+unfolding rowOf
+found-row es [] l d m = absurd (List·Memᴰ·not-nil m)
+found-row es (x ∷ sheet) l d m =
+    ⊎-elim (λ (q : l ≡ x). here q)
+    (λ (t : List·Memᴰ l sheet). there t (found-row es sheet l (d .1) t))
+    (List·Memᴰ·cases-cons m)
+  where
+    ws : List Row
+    ws = map (rowOf es) sheet
+
+    here : l ≡ x → rowFound (rowOf es x ∷ ws) (rowWith (l .symbol) (rowOf es x ∷ ws)) ≡ rowOf es l
+    here q =
+        let e : same (x .symbol) (l .symbol) ≡ true = ap (λ (y : Listing). same (y .symbol) (l .symbol)) (sym q) ∙ same-refl (l .symbol) in
+        ap (rowFound (rowOf es x ∷ ws)) (first-hit (isOf (l .symbol)) (rowOf es x) ws e) ∙ ap (rowOf es) (sym q)
+
+    there : List·Memᴰ l sheet → rowFound ws (rowWith (l .symbol) ws) ≡ rowOf es l → rowFound (rowOf es x ∷ ws) (rowWith (l .symbol) (rowOf es x ∷ ws)) ≡ rowOf es l
+    there t i =
+        let e : same (x .symbol) (l .symbol) ≡ false = same-comm (x .symbol) (l .symbol) ∙ other-symbol (x .symbol) sheet l (d .0) t in
+        ap (rowFound (rowOf es x ∷ ws)) (first-miss (isOf (l .symbol)) (rowOf es x) ws e) ∙ found-up (rowOf es x) ws (rowWith (l .symbol) ws) ∙ i
+
+-- ---- what is told
+
+shown-is : (s : Shown) (a : Answer) (w : RowShown) → s .answer ≡ a → s .row ≡ w → s ≡ record { answer = a; row = w }
+shown-is s a w e f = sym (rw (← e, ← f))
+
+module _ (c : Counters) (rows lines : List ℕ) (safe : sound c (length rows) (length lines) ≡ true) (sheet : List Listing) (es : List Taken)
+    (theRows : usedRows rows (c .rows) ≡ map (rowOf es) sheet) (theLines : usedLines lines (c .lines) ≡ tradesOf es) where
+  answer-is : (symbol : List ℕ) (t : Bool) → listed symbol (symbolsIn sheet) ≡ t → rowAnswer c rows lines symbol ≡ cond t 0 7
+  unfolding rowAnswer
+  answer-is symbol t e =
+      let q : listed symbol (symbolsOf (usedRows rows (c .rows))) ≡ t = ap (λ (ws : List Row). listed symbol (symbolsOf ws)) theRows ∙ ap (listed symbol) (symbols-are es sheet) ∙ e in
+      rw (safe, q) (go t)
+    where
+      go : (t : Bool) → cond {A = ℕ} (not t) 7 0 ≡ cond t 0 7
+      go true = refl
+      go false = refl
+
+  pub row-shown : NoRepeat (symbolsIn sheet) → (l : Listing) → List·Memᴰ l sheet → rowShown c rows lines (l .symbol) ≡ record { answer = answerOf 0; row = shownBy es l }
+  unfolding rowShown
+  row-shown d l m =
+      let z : rowAnswer c rows lines (l .symbol) ≡ 0 = answer-is (l .symbol) true (on-sheet sheet l m) in
+      let q = row-reads c rows lines (l .symbol) z in
+      shown-is (rowShown c rows lines (l .symbol)) (answerOf 0) (shownBy es l) (ap answerOf z) (q .shown ∙ same-row q)
+    where
+      same-row : (q : RowReads c rows lines (l .symbol)) → shownOf (q .row) (q .figures) ≡ shownBy es l
+      same-row q =
+          let ws = usedRows rows (c .rows) in
+          let w : q .row ≡ rowOf es l
+          = q .first .2 ∙ ap (rowFound ws) (sym (q .first .1)) ∙ ap (λ (x : List Row). rowFound x (rowWith (l .symbol) x)) theRows ∙ found-row es sheet l d m in
+          let a : Are (l .symbol) (tradesOf es) (q .figures) = subst (λ (x : List Line). Are (l .symbol) x (q .figures)) theLines (q .mean) in
+          ap (λ (x : Row). shownOf x (q .figures)) w ∙ sym (clerk-figures-one es l (q .figures) a)
+
+  pub row-missing : (symbol : List ℕ) → listed symbol (symbolsIn sheet) ≡ false → rowShown c rows lines symbol ≡ record { answer = answerOf 7; row = nothingShown }
+  unfolding rowShown
+  row-missing symbol h =
+      let z : rowAnswer c rows lines symbol ≡ 7 = answer-is symbol false h in
+      shown-is (rowShown c rows lines symbol) (answerOf 7) nothingShown (ap answerOf z) (refused-keeps c rows lines .row symbol (λ e. omega (arith, e, z)))

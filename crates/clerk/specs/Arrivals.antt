@@ -1,0 +1,43 @@
+-- The line: arrivals of numbered messages, and the largest count that arrives in order.
+-- Assumes nothing.
+use Prim.Native.Nat.{ℕ, zero, suc, _≤_}
+use mathlib.Core.Path.{_≡_}
+use mathlib.Core.List.{List, [], _∷_, map, Sublistᴰ}
+use Rattle.clerk.specs.Steps.{Book, after, next}
+
+-- the n numbers from a on
+unfoldable pub run : ℕ → ℕ → List ℕ
+run a zero = []
+run a (suc n) = a ∷ run (suc a) n
+
+-- n is the largest count for which 1, 2, up to n occur in that order among the numbers
+pub record Largest (ks : List ℕ) (n : ℕ) : Type 0 where
+  pub occurs : Sublistᴰ (run 1 n) ks
+  pub most : (m : ℕ) → Sublistᴰ (run 1 m) ks → m ≤ n
+
+pub record Arrival : Type 0 where
+  pub number : ℕ
+  pub message : List ℕ
+
+abbrev pub numbers : List Arrival → List ℕ
+numbers l = map (λ (a : Arrival). a .number) l
+
+-- each arrival is a copy of the day's message of its number, and its number is one of the day's N
+abbrev pub Copies : (ℕ → List ℕ) → ℕ → List Arrival → Type 0
+Copies day N [] = Unit {0}
+Copies day N (a ∷ l) = ((1 ≤ a .number) × (a .number ≤ N) × (a .message ≡ day (a .number))) × Copies day N l
+
+-- the messages 1 to n, the newest first
+unfoldable pub upto : (ℕ → List ℕ) → ℕ → List (List ℕ)
+upto day zero = []
+upto day (suc n) = day (suc n) ∷ upto day n
+
+-- a book after these used messages, the newest first
+unfoldable pub play : ℕ → Book → List (List ℕ) → Book
+play limit b [] = b
+play limit b (m ∷ ms) = after limit (play limit b ms) m
+
+-- each arrival delivered as it comes
+unfoldable pub deliverEach : ℕ → Book → List Arrival → Book
+deliverEach limit b [] = b
+deliverEach limit b (a ∷ l) = deliverEach limit (next limit b (a .number) (a .message)) l

@@ -1,0 +1,145 @@
+-- The clerk. He works from the sheet, the room and the used messages alone, and reads no stored figure and no lent byte. A list of
+-- used messages, and a list of taken ones, has the newest first.
+-- Assumes nothing.
+use Prim.Native.Nat.{ℕ, suc}
+use mathlib.Core.List.{List, [], _∷_, _++_, map}
+use mathlib.Core.Bool.{cond, not, _&&_}
+use lib.Dec.{eqb}
+use lib.ListN.{length}
+use Rattle.octets.specs.Run.{same}
+use Rattle.message.specs.Reading.{readOf}
+use Rattle.message.specs.declared.Record.{Record}
+use Rattle.store.specs.declared.lines.Line.{Line}
+use Rattle.store.specs.declared.rows.Row.{Row}
+use Rattle.store.specs.declared.rows.Summary.{Summary}
+use Rattle.store.specs.declared.rows.Summary.the-variants.{NoSummary, HighLow}
+use Rattle.store.specs.declared.rows.Reported.{Reported}
+use Rattle.store.specs.declared.rows.Reported.the-variants.{NotSet, Volume}
+use Rattle.walk.specs.Figures.{figuresOf}
+use Rattle.table.specs.Messages.{isEvent, isCorrection, isSummary, namesOld, makesNew, phaseOf, oldKey, newKey, newSale}
+use Rattle.table.specs.Table.{lowest, listed, contentTable, listTable}
+use Rattle.show.specs.declared.RowShown.{RowShown}
+use Rattle.show.specs.Showing.{shownOf}
+use Rattle.clerk.specs.Steps.{Book}
+
+-- ---- the sheet
+
+pub record Listing : Type 0 where
+  pub symbol : List ℕ
+  pub close : ℕ
+
+abbrev pub symbolsIn : List Listing → List (List ℕ)
+symbolsIn sheet = map (λ (l : Listing). l .symbol) sheet
+
+-- a listing is on the sheet if the table gives 0, worked from the listings before it, no number being used up yet
+unfoldable pub sheetFrom : ℕ → List Listing → List Listing → List Listing
+sheetFrom limit sheet [] = sheet
+sheetFrom limit sheet (l ∷ ls) =
+    sheetFrom limit (cond (eqb (lowest (listTable 1 (symbolsIn sheet) limit (l .symbol) (l .close))) 0) (sheet ++ (l ∷ [])) sheet) ls
+
+abbrev pub sheetOf : ℕ → List Listing → List Listing
+sheetOf limit ls = sheetFrom limit [] ls
+
+-- ---- the taken messages
+
+pub record Taken : Type 0 where
+  pub number : ℕ
+  pub message : Record
+
+-- the last event taken
+unfoldable pub phaseAfter : List Taken → ℕ
+phaseAfter [] = 0
+phaseAfter (e ∷ es) = cond (isEvent (e .message)) (phaseOf (e .message .event)) (phaseAfter es)
+
+-- the place and time of a trade, by its key
+pub record Origin : Type 0 where
+  pub place : ℕ
+  pub time : ℕ
+
+-- of a T its number and time; of a C those of the trade that it named, through any chain of corrections
+unfoldable pub originOf : List Taken → List ℕ → Origin
+originOf [] key = record { place = 0; time = 0 }
+originOf (e ∷ es) key =
+    cond (makesNew (e .message) && same (newKey (e .message)) key)
+    (cond (isCorrection (e .message)) (originOf es (oldKey (e .message))) (record { place = e .number; time = e .message .time }))
+    (originOf es key)
+
+-- the key that an X or a C names
+abbrev pub names : Record → List (List ℕ)
+names r = cond (namesOld r) (oldKey r ∷ []) []
+
+-- ---- the trades
+
+-- a trade that a T or a C made; `later` are the keys that later taken X and C named
+abbrev pub trade : Taken → Origin → List (List ℕ) → Line
+trade e o later =
+    record {
+      key = newKey (e .message);
+      symbol = e .message .symbol;
+      price = newSale (e .message) .price;
+      size = newSale (e .message) .size;
+      condition = newSale (e .message) .condition;
+      place = o .place;
+      time = o .time;
+      live = not (listed (newKey (e .message)) later);
+    }
+
+abbrev pub made : Taken → List Taken → List (List ℕ) → List Line
+made e es later = cond (makesNew (e .message)) (trade e (originOf (e ∷ es) (newKey (e .message))) later ∷ []) []
+
+unfoldable pub tradesBut : List (List ℕ) → List Taken → List Line
+tradesBut later [] = []
+tradesBut later (e ∷ es) = tradesBut (names (e .message) ++ later) es ++ made e es later
+
+-- all trades, the oldest first: live if no later taken X or C named it
+abbrev pub tradesOf : List Taken → List Line
+tradesOf es = tradesBut [] es
+
+-- ---- which messages are taken
+
+-- a message is taken if the table, worked from the sheet, the room and the used messages before it, gives 0
+unfoldable pub takenOf : List Listing → ℕ → List (List ℕ) → List Taken
+takenOf sheet limit [] = []
+takenOf sheet limit (m ∷ ms) =
+    let es = takenOf sheet limit ms in
+    cond (eqb (lowest (contentTable (phaseAfter es) (symbolsIn sheet) (tradesOf es) limit (readOf m))) 0)
+    (record { number = suc (length ms); message = readOf m .found } ∷ es)
+    es
+
+-- ---- rows
+
+-- the latest J of a symbol
+unfoldable pub summaryOf : List Taken → List ℕ → Summary
+summaryOf [] symbol = NoSummary
+summaryOf (e ∷ es) symbol =
+    cond (isSummary (e .message) && same symbol (e .message .symbol)) (HighLow (e .message .high) (e .message .low)) (summaryOf es symbol)
+
+-- the latest consolidated volume of a symbol
+unfoldable pub reportedOf : List Taken → List ℕ → Reported
+reportedOf [] symbol = NotSet
+reportedOf (e ∷ es) symbol =
+    cond (not (isEvent (e .message)) && same symbol (e .message .symbol)) (Volume (e .message .consolidated)) (reportedOf es symbol)
+
+unfoldable pub rowOf : List Taken → Listing → Row
+rowOf es l = record { symbol = l .symbol; close = l .close; summary = summaryOf es (l .symbol); reported = reportedOf es (l .symbol) }
+
+-- what he shows of a listed symbol
+unfoldable pub shownBy : List Taken → Listing → RowShown
+shownBy es l = shownOf (rowOf es l) (figuresOf (l .symbol) (tradesOf es))
+
+-- ---- his book
+
+unfoldable pub bookBy : List Listing → List Taken → ℕ → Book
+bookBy sheet es n =
+    record {
+      wanted = suc n;
+      phase = phaseAfter es;
+      rows = map (rowOf es) sheet;
+      lines = tradesOf es;
+      listed = length sheet;
+      used = length (tradesOf es);
+      taken = length es;
+    }
+
+unfoldable pub clerkBook : List Listing → ℕ → List (List ℕ) → Book
+clerkBook sheet limit ms = bookBy sheet (takenOf sheet limit ms) (length ms)

@@ -1,0 +1,4 @@
+pub mod Steps
+pub mod Clerk
+pub mod Arrivals
+pub mod Claims
