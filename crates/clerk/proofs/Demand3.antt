@@ -230,7 +230,7 @@ module _ (day : ℕ → List ℕ) (N n : ℕ) (fits : N ≤ 4294967295) (l : Lis
   pub one-true-day : (n ≤ N) × (bookOf d endRows endLines ≡ clerkBook sheet room (upto day n))
   one-true-day = (largest-below day N n l copies largest, stands .reads)
 
-  -- the numbers used up are 1 to n
+  -- n numbers are used up
   pub wants-next : d .wanted ≡ suc n
   unfolding bookOf clerkBook bookBy
   wants-next = ap (λ (b : Book). b .wanted) (stands .reads) ∙ ap suc (upto-length day n)
@@ -263,19 +263,24 @@ module _ (day : ℕ → List ℕ) (N n : ℕ) (fits : N ≤ 4294967295) (l : Lis
   unfolding clerkBook bookBy
   book-live x = rw the-lines (live-exactly sheet room (upto day n) x)
 
--- two runs of one day with one sheet, one size of room for lines and one n end in one book, whatever the rooms held before
+-- two runs of one day with one sheet, one size of room for lines and one n end in one book, the clerk's, whatever the rooms
+-- held before
 pub equal-books : (day : ℕ → List ℕ) (N n : ℕ) → N ≤ 4294967295
     → {rows lines : List ℕ} {ls : List Listing} {l : List Arrival} {d : Counters} {endRows endLines : List ℕ}
     → {rows′ lines′ : List ℕ} {ls′ : List Listing} {l′ : List Arrival} {d′ : Counters} {endRows′ endLines′ : List ℕ}
     → Bytes lines → Bytes lines′ → length lines ≡ length lines′ → sheetOf (rowLimit (length rows)) ls ≡ sheetOf (rowLimit (length rows′)) ls′
     → Copies day N l → Copies day N l′ → Largest (numbers l) n → Largest (numbers l′) n
     → Day rows lines ls l d endRows endLines → Day rows′ lines′ ls′ l′ d′ endRows′ endLines′
-    → bookOf d endRows endLines ≡ bookOf d′ endRows′ endLines′
-equal-books day N n fits {rows} {lines} {ls} {l} {d} {endRows} {endLines} {rows′} {lines′} {ls′} {l′} {d′} {endRows′} {endLines′} b b′ el es c c′ g g′ h h′ =
-    one-true-day day N n fits l c g b h .1
-    ∙ ap (λ (s : List Listing). clerkBook s (lineLimit (length lines)) (upto day n)) es
-    ∙ ap (λ (k : ℕ). clerkBook (sheetOf (rowLimit (length rows′)) ls′) (lineLimit k) (upto day n)) el
-    ∙ sym (one-true-day day N n fits l′ c′ g′ b′ h′ .1)
+    → let clerks = clerkBook (sheetOf (rowLimit (length rows)) ls) (lineLimit (length lines)) (upto day n) in
+    (bookOf d endRows endLines ≡ clerks) × (bookOf d′ endRows′ endLines′ ≡ clerks)
+equal-books day N n fits {rows} {lines} {ls} {l} {d} {endRows} {endLines} {rows′} {lines′} {ls′} {l′} {d′} {endRows′} {endLines′} b b′ el es c c′ g g′ h h′ = (
+  one-true-day day N n fits l c g b h .1,
+  one-true-day day N n fits l′ c′ g′ b′ h′ .1
+      ∙ sym (
+      ap (λ (s : List Listing). clerkBook s (lineLimit (length lines)) (upto day n)) es
+      ∙ ap (λ (k : ℕ). clerkBook (sheetOf (rowLimit (length rows′)) ls′) (lineLimit k) (upto day n)) el
+      ),
+)
 
 -- ---- listings come before messages
 

@@ -8,3 +8,4 @@ pub mod Once
 pub mod Wall
 pub mod Demand3
 pub mod Runs
+pub mod PDays

@@ -1,0 +1,266 @@
+-- Days to try by hand, as one table: what arrives, what is said back, how many messages are used, and what each row shows then. The
+-- table is worked twice: from the book's promises, in lent rooms whose bytes are all 35 at first, and from the clerk's definitions.
+-- Assumes nothing.
+use Prim.Native.Nat.{ℕ, _*_, _-_}
+use mathlib.Core.Path.{_≡_}
+use mathlib.Core.List.{List, [], _∷_, _++_}
+use mathlib.Core.Bool.{Bool, true, false}
+use lib.IntN.{pos, negsuc}
+use lib.ListN.{getD, replicate}
+use Rattle.octets.specs.Number.{digits}
+use Rattle.message.specs.Answers.{numberOf}
+use Rattle.store.specs.Lines.{lineLimit}
+use Rattle.store.specs.Rows.{rowLimit}
+use Rattle.store.specs.declared.rows.Reported.{Reported}
+use Rattle.store.specs.declared.rows.Reported.the-variants.{NotSet, Volume}
+use Rattle.walk.specs.declared.Price.{Price}
+use Rattle.walk.specs.declared.Price.the-variants.{Absent, Of}
+use Rattle.show.specs.declared.Net.{Net}
+use Rattle.show.specs.declared.Net.the-variants.{NoNet, Amount}
+use Rattle.show.specs.declared.RowShown.{RowShown}
+use Rattle.book.specs.declared.counters.Counters.{Counters}
+use Rattle.book.specs.Counting.{freshCounters}
+use Rattle.book.specs.Calls.{listSaid, listRows, deliverSaid, deliverRows, deliverLines, rowShown}
+use Rattle.octets.specs.Run as Run
+use Rattle.octets.specs.Number as Number
+use Rattle.octets.specs.Text as Text
+use Rattle.sheet.specs.Sheet as Sheet
+use Rattle.message.specs.Reading as Reading
+use Rattle.store.specs.Search as Search
+use Rattle.store.specs.Lines as Lines
+use Rattle.store.specs.Rows as Rows
+use Rattle.walk.specs.Figures as Figures
+use Rattle.show.specs.Showing as Showing
+use Rattle.table.specs.Messages as Messages
+use Rattle.table.specs.Table as Table
+use Rattle.table.specs.Taking as Taking
+use Rattle.book.specs.Counting as Counting
+use Rattle.book.specs.Calls as Calls
+use Rattle.clerk.specs.Clerk as Clerk
+use Rattle.clerk.specs.Arrivals as Arrivals
+use Rattle.clerk.specs.Clerk.{Listing, sheetOf, takenOf, shownBy}
+use Rattle.clerk.specs.Arrivals.{upto}
+
+-- ---- texts and messages
+
+-- letters as bytes
+abbrev pub spaces : ℕ → List ℕ
+spaces n = replicate n 32
+
+-- a control of one digit
+abbrev pub control : ℕ → List ℕ
+control digit = digit ∷ spaces 9
+
+-- ABCD
+abbrev pub abcd : List ℕ
+abcd = 65 ∷ 66 ∷ 67 ∷ 68 ∷ spaces 4
+
+-- the four codes of a condition, and the plain one
+abbrev pub codes : ℕ → ℕ → ℕ → ℕ → List ℕ
+codes a b c d = a ∷ b ∷ c ∷ d ∷ []
+
+abbrev pub plain : List ℕ
+plain = codes 64 32 32 32
+
+-- control, price, size and condition
+abbrev pub sale : ℕ → ℕ → ℕ → List ℕ → List ℕ
+sale k price size condition = control k ++ (digits 4 price ++ (digits 4 size ++ condition))
+
+-- a message that came at k thousand milliseconds
+abbrev pub event : ℕ → ℕ → List ℕ
+event k e = digits 4 (k * 1000) ++ (83 ∷ e ∷ [])
+
+-- T and X, by letter, centre, what they say of the trade, and the consolidated volume; class Q
+abbrev pub report : ℕ → ℕ → ℕ → List ℕ → ℕ → List ℕ
+report k letter centre s volume = digits 4 (k * 1000) ++ (letter ∷ centre ∷ abcd ++ (81 ∷ s ++ digits 8 volume))
+
+abbrev pub trade : ℕ → ℕ → List ℕ → ℕ → List ℕ
+trade k centre s volume = report k 84 centre s volume
+
+abbrev pub cancel : ℕ → ℕ → List ℕ → ℕ → List ℕ
+cancel k centre s volume = report k 88 centre s volume
+
+abbrev pub correct : ℕ → ℕ → List ℕ → List ℕ → ℕ → List ℕ
+correct k centre s new volume = digits 4 (k * 1000) ++ (67 ∷ centre ∷ abcd ++ (81 ∷ s ++ (new ++ digits 8 volume)))
+
+abbrev pub summary : ℕ → ℕ → ℕ → ℕ → List ℕ
+summary k high low volume = digits 4 (k * 1000) ++ (74 ∷ abcd ++ (81 ∷ digits 4 high ++ (digits 4 low ++ (digits 4 0 ++ digits 8 volume))))
+
+-- ---- the day W; Q is 81, L is 76, the digits 1, 2, 9 are 49, 50, 57
+
+abbrev pub q1 : List ℕ
+q1 = sale 49 251000 100 plain
+
+abbrev pub q2 : List ℕ
+q2 = sale 50 260000 300 plain
+
+abbrev pub q9 : List ℕ
+q9 = sale 57 252500 120 plain
+
+abbrev pub w : List (List ℕ)
+w = event 1 79
+    ∷ trade 2 81 q1 100
+    ∷ trade 3 81 q2 400
+    ∷ trade 4 76 (sale 49 249000 50 (codes 64 32 32 73)) 450
+    ∷ cancel 5 81 q2 500
+    ∷ correct 6 81 q1 q9 600
+    ∷ []
+
+-- ---- a case of the table
+
+pub record Case : Type 0 where
+  pub close : ℕ
+  pub day : List (List ℕ)
+  pub arrivals : List ℕ
+  pub said : List ℕ
+  pub used : ℕ
+  pub shown : RowShown
+
+-- message k of a day
+abbrev pub dayOf : List (List ℕ) → ℕ → List ℕ
+dayOf ms k = getD ms (k - 1) []
+
+-- last, high, low, net, volume, count, agrees, reported
+unfoldable pub figures : ℕ → Price → Price → Price → Net → ℕ → ℕ → Bool → Reported → RowShown
+figures close last high low net volume count agrees reported =
+    record {
+      symbol = abcd;
+      close = close;
+      last = last;
+      high = high;
+      low = low;
+      net = net;
+      volume = volume;
+      count = count;
+      agrees = agrees;
+      reported = reported;
+    }
+
+-- a row whose last, high and low are known and that no J was taken for
+abbrev pub priced : ℕ → ℕ → ℕ → ℕ → Net → ℕ → ℕ → ℕ → RowShown
+priced close last high low net volume count reported = figures close (Of last) (Of high) (Of low) net volume count false (Volume reported)
+
+-- ---- worked from the book's promises
+
+-- room for two rows and twelve lines, and some bytes more
+abbrev pub rowsRoom : ℕ
+rowsRoom = 65
+
+abbrev pub linesRoom : ℕ
+linesRoom = 483
+
+pub record Kept : Type 0 where
+  pub counters : Counters
+  pub rows : List ℕ
+  pub lines : List ℕ
+
+unfoldable pub opened : ℕ → Kept
+opened close =
+    record {
+      counters = listSaid freshCounters (replicate rowsRoom 35) (replicate linesRoom 35) abcd close .counters;
+      rows = listRows freshCounters (replicate rowsRoom 35) (replicate linesRoom 35) abcd close;
+      lines = replicate linesRoom 35;
+    }
+
+unfoldable pub given : Kept → ℕ → List ℕ → Kept
+given k n m =
+    record {
+      counters = deliverSaid (k .counters) (k .rows) (k .lines) n m .counters;
+      rows = deliverRows (k .counters) (k .rows) (k .lines) n m;
+      lines = deliverLines (k .counters) (k .rows) (k .lines) n m;
+    }
+
+unfoldable pub answersTo : (ℕ → List ℕ) → Kept → List ℕ → List ℕ
+answersTo day k [] = []
+answersTo day k (n ∷ ns) = numberOf (deliverSaid (k .counters) (k .rows) (k .lines) n (day n) .answer) ∷ answersTo day (given k n (day n)) ns
+
+unfoldable pub keptAfter : (ℕ → List ℕ) → Kept → List ℕ → Kept
+keptAfter day k [] = k
+keptAfter day k (n ∷ ns) = keptAfter day (given k n (day n)) ns
+
+unfoldable pub saidBack : Case → List ℕ
+unfolding Run.tab Run.part Number.be Number.digits Text.text Sheet.sheetAt Sheet.marksOf Sheet.conditionMarks
+    Reading.lengthBy Reading.saleAt Reading.fieldsS Reading.fieldsTrade Reading.fieldsJ Reading.fieldsOf Reading.saleOk Reading.saleNone Reading.pricesNone Reading.tradeOk Reading.lawfulS Reading.lawfulT Reading.lawfulC Reading.lawfulJ Reading.lawfulOf Reading.judgedOf Reading.readOf
+    Search.first Lines.lineFrom Lines.lineBytes Lines.usedLines Lines.lineIn Lines.withLine Lines.withDead
+    Rows.summaryAt Rows.reportedAt Rows.rowFrom Rows.newRow Rows.reportBytes Rows.summaryBytes Rows.usedRows Rows.rowIn Rows.inRow
+    Figures.counts Figures.sold Figures.tally Figures.fold Figures.figuresOf Showing.shownOf
+    Messages.matches Table.numberTable Table.contentTable Table.listTable Taking.linesBy Taking.rowsBy
+    Counting.sound Counting.takenBy Calls.listAnswer Calls.listSaid Calls.listRows Calls.deliverAnswer Calls.deliverSaid Calls.deliverRows Calls.deliverLines Calls.rowAnswer Calls.rowShown
+    figures opened given answersTo keptAfter
+saidBack c = answersTo (dayOf (c .day)) (opened (c .close)) (c .arrivals)
+
+-- how many numbers are used up
+unfoldable pub usedUp : Case → ℕ
+unfolding saidBack
+usedUp c = keptAfter (dayOf (c .day)) (opened (c .close)) (c .arrivals) .counters .wanted - 1
+
+unfoldable pub bookShows : Case → RowShown
+unfolding usedUp
+bookShows c =
+    let k = keptAfter (dayOf (c .day)) (opened (c .close)) (c .arrivals) in
+    rowShown (k .counters) (k .rows) (k .lines) abcd .row
+
+-- ---- worked by the clerk
+
+unfoldable pub clerkShows : Case → RowShown
+unfolding bookShows Clerk.sheetFrom Clerk.phaseAfter Clerk.originOf Clerk.tradesBut Clerk.takenOf Clerk.summaryOf Clerk.reportedOf Clerk.rowOf Clerk.shownBy Arrivals.upto
+clerkShows c =
+    let l : Listing = record { symbol = abcd; close = c .close } in
+    shownBy (takenOf (sheetOf (rowLimit rowsRoom) (l ∷ [])) (lineLimit linesRoom) (upto (dayOf (c .day)) (c .used))) l
+
+-- ---- the table
+
+-- what is said back, how many are used, and what the row shows, both as worked from the book and as worked by the clerk
+abbrev pub AsSaid : List Case → Type 0
+AsSaid [] = Unit {0}
+AsSaid (c ∷ cs) = ((saidBack c ≡ c .said) × (usedUp c ≡ c .used) × (bookShows c ≡ c .shown) × (clerkShows c ≡ c .shown)) × AsSaid cs
+
+unfoldable pub days : List Case
+days =
+    -- 1: W after number 3
+    record { close = 250000; day = w; arrivals = 1 ∷ 2 ∷ 3 ∷ []; said = 0 ∷ 0 ∷ 0 ∷ []; used = 3; shown = priced 250000 260000 260000 251000 (Amount (pos 10000)) 400 2 400 }
+    -- 2: W after 4
+    ∷ record { close = 250000; day = w; arrivals = 1 ∷ 2 ∷ 3 ∷ 4 ∷ []; said = 0 ∷ 0 ∷ 0 ∷ 0 ∷ []; used = 4; shown = priced 250000 260000 260000 251000 (Amount (pos 10000)) 450 3 450 }
+    -- 3: W after 5
+    ∷ record { close = 250000; day = w; arrivals = 1 ∷ 2 ∷ 3 ∷ 4 ∷ 5 ∷ []; said = 0 ∷ 0 ∷ 0 ∷ 0 ∷ 0 ∷ []; used = 5; shown = priced 250000 251000 251000 251000 (Amount (pos 1000)) 150 2 500 }
+    -- 4: W after 6
+    ∷ record { close = 250000; day = w; arrivals = 1 ∷ 2 ∷ 3 ∷ 4 ∷ 5 ∷ 6 ∷ []; said = 0 ∷ 0 ∷ 0 ∷ 0 ∷ 0 ∷ 0 ∷ []; used = 6; shown = priced 250000 252500 252500 252500 (Amount (pos 2500)) 170 2 600 }
+    -- 5: a second X of Q 2
+    ∷ record { close = 250000; day = w ++ (cancel 7 81 q2 700 ∷ []); arrivals = 1 ∷ 2 ∷ 3 ∷ 4 ∷ 5 ∷ 6 ∷ 7 ∷ []; said = 0 ∷ 0 ∷ 0 ∷ 0 ∷ 0 ∷ 0 ∷ 9 ∷ []; used = 7; shown = priced 250000 252500 252500 252500 (Amount (pos 2500)) 170 2 600 }
+    -- 6: X naming Q 2 with another size
+    ∷ record { close = 250000; day = event 1 79 ∷ trade 2 81 q1 100 ∷ trade 3 81 q2 400 ∷ cancel 4 81 (sale 50 260000 299 plain) 450 ∷ []; arrivals = 1 ∷ 2 ∷ 3 ∷ 4 ∷ []; said = 0 ∷ 0 ∷ 0 ∷ 10 ∷ []; used = 4; shown = priced 250000 260000 260000 251000 (Amount (pos 10000)) 400 2 400 }
+    -- 7: C whose new control is its own old one
+    ∷ record { close = 250000; day = event 1 79 ∷ trade 2 81 q1 100 ∷ correct 3 81 q1 (sale 49 252500 120 plain) 600 ∷ []; arrivals = 1 ∷ 2 ∷ 3 ∷ []; said = 0 ∷ 0 ∷ 11 ∷ []; used = 3; shown = priced 250000 251000 251000 251000 (Amount (pos 1000)) 100 1 100 }
+    -- 8: a number that comes too early, and again
+    ∷ record { close = 250000; day = w; arrivals = 1 ∷ 3 ∷ 2 ∷ 3 ∷ []; said = 0 ∷ 3 ∷ 0 ∷ 0 ∷ []; used = 3; shown = priced 250000 260000 260000 251000 (Amount (pos 10000)) 400 2 400 }
+    -- 9: an empty message uses up its number
+    ∷ record { close = 250000; day = event 1 79 ∷ [] ∷ trade 3 81 q1 100 ∷ []; arrivals = 1 ∷ 2 ∷ 3 ∷ []; said = 0 ∷ 4 ∷ 0 ∷ []; used = 3; shown = priced 250000 251000 251000 251000 (Amount (pos 1000)) 100 1 100 }
+    -- 10: the ends of a price
+    ∷ record { close = 250000; day = event 1 79 ∷ trade 2 81 (sale 49 2000000000 1 plain) 1 ∷ trade 3 81 (sale 50 2000000001 1 plain) 2 ∷ trade 4 81 (sale 51 0 1 plain) 3 ∷ []; arrivals = 1 ∷ 2 ∷ 3 ∷ 4 ∷ []; said = 0 ∷ 0 ∷ 5 ∷ 5 ∷ []; used = 4; shown = priced 250000 2000000000 2000000000 2000000000 (Amount (pos 1999750000)) 1 1 1 }
+    -- 13: number 0, and an event that comes too late
+    ∷ record { close = 250000; day = event 1 81 ∷ event 2 83 ∷ []; arrivals = 1 ∷ 0 ∷ 2 ∷ []; said = 0 ∷ 1 ∷ 6 ∷ []; used = 2; shown = figures 250000 Absent Absent Absent NoNet 0 0 false NotSet }
+    -- trades that may set high and low only, by 4, L and Z
+    ∷ record { close = 250000; day = event 1 79 ∷ trade 2 81 (sale 49 251000 100 plain) 1 ∷ trade 3 81 (sale 50 260000 300 (codes 64 52 32 32)) 2 ∷ trade 4 81 (sale 51 240000 10 (codes 64 32 76 32)) 3 ∷ trade 5 81 (sale 52 270000 20 (codes 64 32 90 32)) 4 ∷ []; arrivals = 1 ∷ 2 ∷ 3 ∷ 4 ∷ 5 ∷ []; said = 0 ∷ 0 ∷ 0 ∷ 0 ∷ 0 ∷ []; used = 5; shown = priced 250000 251000 270000 240000 (Amount (pos 1000)) 430 4 4 }
+    -- a trade with neither mark
+    ∷ record { close = 250000; day = event 1 79 ∷ trade 2 81 (sale 49 251000 100 (codes 67 32 32 32)) 1 ∷ []; arrivals = 1 ∷ 2 ∷ []; said = 0 ∷ 0 ∷ []; used = 2; shown = figures 250000 Absent Absent Absent NoNet 100 1 false (Volume 1) }
+    -- a trade for each column of each level
+    ∷ record { close = 1000; day = event 1 79 ∷ trade 2 81 (sale 49 1000 1 plain) 1 ∷ trade 3 81 (sale 50 5000 2 (codes 78 32 32 32)) 2 ∷ trade 4 81 (sale 51 1100 4 (codes 64 70 32 32)) 3 ∷ trade 5 81 (sale 52 4000 8 (codes 64 52 32 32)) 4 ∷ trade 6 81 (sale 53 6000 16 (codes 64 55 32 32)) 5 ∷ trade 7 81 (sale 54 500 32 (codes 64 32 90 32)) 6 ∷ trade 8 81 (sale 55 1 64 (codes 64 32 84 32)) 7 ∷ trade 9 81 (sale 56 1200 128 (codes 64 32 32 65)) 8 ∷ trade 10 81 (sale 57 7000 256 (codes 64 32 32 87)) 9 ∷ []; arrivals = 1 ∷ 2 ∷ 3 ∷ 4 ∷ 5 ∷ 6 ∷ 7 ∷ 8 ∷ 9 ∷ 10 ∷ []; said = 0 ∷ 0 ∷ 0 ∷ 0 ∷ 0 ∷ 0 ∷ 0 ∷ 0 ∷ 0 ∷ 0 ∷ []; used = 10; shown = priced 1000 1200 4000 500 (Amount (pos 200)) 511 9 9 }
+    -- a chain of three corrections keeps the first trade's place
+    ∷ record { close = 1000; day = event 1 79 ∷ trade 2 81 (sale 49 1000 10 plain) 1 ∷ trade 3 81 (sale 50 2000 20 plain) 2 ∷ correct 4 81 (sale 49 1000 10 plain) (sale 51 1100 11 plain) 3 ∷ correct 5 81 (sale 51 1100 11 plain) (sale 52 1200 12 plain) 4 ∷ correct 6 81 (sale 52 1200 12 plain) (sale 53 1300 13 plain) 5 ∷ []; arrivals = 1 ∷ 2 ∷ 3 ∷ 4 ∷ 5 ∷ 6 ∷ []; said = 0 ∷ 0 ∷ 0 ∷ 0 ∷ 0 ∷ 0 ∷ []; used = 6; shown = priced 1000 2000 2000 1300 (Amount (pos 1000)) 33 2 5 }
+    -- a correction that changes the condition
+    ∷ record { close = 1000; day = event 1 79 ∷ trade 2 81 (sale 49 1000 10 plain) 1 ∷ correct 3 81 (sale 49 1000 10 plain) (sale 50 1000 10 (codes 64 32 32 73)) 2 ∷ []; arrivals = 1 ∷ 2 ∷ 3 ∷ []; said = 0 ∷ 0 ∷ 0 ∷ []; used = 3; shown = figures 1000 Absent Absent Absent NoNet 10 1 false (Volume 2) }
+    -- a J that agrees
+    ∷ record { close = 250000; day = event 1 79 ∷ trade 2 81 q1 100 ∷ summary 3 251000 251000 7 ∷ []; arrivals = 1 ∷ 2 ∷ 3 ∷ []; said = 0 ∷ 0 ∷ 0 ∷ []; used = 3; shown = figures 250000 (Of 251000) (Of 251000) (Of 251000) (Amount (pos 1000)) 100 1 true (Volume 7) }
+    -- a J that does not, replaced by one that does, and the other way round
+    ∷ record { close = 250000; day = event 1 79 ∷ trade 2 81 q1 100 ∷ summary 3 251000 250999 7 ∷ summary 4 251000 251000 8 ∷ summary 5 251001 251000 9 ∷ []; arrivals = 1 ∷ 2 ∷ 3 ∷ 4 ∷ 5 ∷ []; said = 0 ∷ 0 ∷ 0 ∷ 0 ∷ 0 ∷ []; used = 5; shown = figures 250000 (Of 251000) (Of 251000) (Of 251000) (Amount (pos 1000)) 100 1 false (Volume 9) }
+    -- a J of zeros agrees with a row that has no high and no low
+    ∷ record { close = 250000; day = event 1 79 ∷ summary 2 0 0 3 ∷ []; arrivals = 1 ∷ 2 ∷ []; said = 0 ∷ 0 ∷ []; used = 2; shown = figures 250000 Absent Absent Absent NoNet 0 0 true (Volume 3) }
+    -- last 1, close 2,000,000,000
+    ∷ record { close = 2000000000; day = event 1 79 ∷ trade 2 81 (sale 49 1 1 plain) 1 ∷ []; arrivals = 1 ∷ 2 ∷ []; said = 0 ∷ 0 ∷ []; used = 2; shown = priced 2000000000 1 1 1 (Amount (negsuc 1999999998)) 1 1 1 }
+    -- no net where the close is 0
+    ∷ record { close = 0; day = event 1 79 ∷ trade 2 81 (sale 49 251000 1 plain) 1 ∷ []; arrivals = 1 ∷ 2 ∷ []; said = 0 ∷ 0 ∷ []; used = 2; shown = priced 0 251000 251000 251000 (NoNet) 1 1 1 }
+    -- equal prices
+    ∷ record { close = 1000; day = event 1 79 ∷ trade 2 81 (sale 49 1000 1 plain) 1 ∷ trade 3 81 (sale 50 1000 2 plain) 2 ∷ []; arrivals = 1 ∷ 2 ∷ 3 ∷ []; said = 0 ∷ 0 ∷ 0 ∷ []; used = 3; shown = priced 1000 1000 1000 1000 (Amount (pos 0)) 3 2 2 }
+    -- the only high cancelled
+    ∷ record { close = 1000; day = event 1 79 ∷ trade 2 81 (sale 49 1000 1 plain) 1 ∷ trade 3 81 (sale 50 2000 2 plain) 2 ∷ cancel 4 81 (sale 50 2000 2 plain) 3 ∷ []; arrivals = 1 ∷ 2 ∷ 3 ∷ 4 ∷ []; said = 0 ∷ 0 ∷ 0 ∷ 0 ∷ []; used = 4; shown = priced 1000 1000 1000 1000 (Amount (pos 0)) 1 1 3 }
+    ∷ []

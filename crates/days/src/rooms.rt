@@ -1,0 +1,80 @@
+// What the lent bytes hold: whole cells in fields, then the bytes past them.
+use crate::tell;
+use octets::number::number4;
+use octets::number::number8;
+use octets::run;
+use std::num::wrapping_add_usize;
+ghost use Prim.Native.Nat.{_<_};
+
+// Both rooms, with a gap before each cell. Of a row: symbol, close, J mark, high, low, reported mark, volume. Of a line:
+// key, symbol, price, size, condition, place, time, live mark.
+pub fn tell(rows: &[u8], lines: &[u8], gap: &[u8]) {
+    tell::words(b"rows");
+    tell_room(rows, 30, b"[........ 4 J1 4 4 R1 8]", gap);
+    tell::words(b"\nlines");
+    tell_room(lines, 40, b"[........... ........ 4 4 .... 4 4 1]", gap);
+    tell::words(b"\n");
+}
+
+fn tell_room(room: &[u8], cell: usize, form: &[u8], gap: &[u8])
+    requires { ⌜ 0 < cell ⌝ }
+{
+    let mut at: usize = 0;
+    while cell <= room.len() - at {
+        tell::words(gap);
+        tell_cell(room, at, form);
+        at += cell;
+    }
+    if at < room.len() {
+        tell::words(gap);
+        tell::words(b"+");
+        tell::words(&room[at..]);
+    }
+}
+
+fn tell_cell(room: &[u8], start: usize, form: &[u8]) {
+    let mut at: usize = start;
+    let mut i: usize = 0;
+    while i < form.len() {
+        at = wrapping_add_usize(at, tell_part(room, at, form[i]));
+        i += 1;
+    }
+}
+
+// One sign of a form, and how many bytes it stands for: a dot for one as it is, a digit for a number of so many, any
+// other for itself.
+fn tell_part(room: &[u8], at: usize, sign: u8) -> usize {
+    match sign {
+        b'.' => {
+            tell::words(&[run::byte(room, at)]);
+            1
+        }
+        b'1' => {
+            tell::field(b"", run::byte(room, at) as u64);
+            1
+        }
+        b'4' => {
+            tell::field(b"", number4(room, at) as u64);
+            4
+        }
+        b'8' => {
+            tell::field(b"", number8(room, at));
+            8
+        }
+        _ => {
+            tell::words(&[sign]);
+            0
+        }
+    }
+}
+
+// A sum that no change of one byte leaves as it was.
+pub fn sum(room: &[u8]) -> u64 {
+    let mut sum: u64 = 0;
+    let mut i: usize = 0;
+    while i < room.len() {
+        sum = (sum * 31 + tell::wide(room[i]) + 1) % 65521;
+        i += 1;
+    }
+    sum
+}
