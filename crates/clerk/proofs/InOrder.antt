@@ -22,11 +22,11 @@ unfoldable pub got : ℕ → List ℕ → ℕ
 got w [] = 0
 got w (k ∷ ks) = cond (eqb k w) (suc (got (suc w) ks)) (got w ks)
 
-got-at : (w k : ℕ) (ks : List ℕ) → eqb k w ≡ true → got w (k ∷ ks) ≡ suc (got (suc w) ks)
+pub got-at : (w k : ℕ) (ks : List ℕ) → eqb k w ≡ true → got w (k ∷ ks) ≡ suc (got (suc w) ks)
 unfolding got
 got-at w k ks e = rw e
 
-got-other : (w k : ℕ) (ks : List ℕ) → eqb k w ≡ false → got w (k ∷ ks) ≡ got w ks
+pub got-other : (w k : ℕ) (ks : List ℕ) → eqb k w ≡ false → got w (k ∷ ks) ≡ got w ks
 unfolding got
 got-other w k ks e = rw e
 
@@ -67,20 +67,20 @@ largest-one ks n k h g = omega (arith, h .most k (g .occurs), g .most n (h .occu
 -- ---- one arrival
 
 -- at the wanted number
-next-at : (limit : ℕ) (b : Book) (n : ℕ) (m : List ℕ) → 1 ≤ n → n ≤ 4294967295 → n ≡ b .wanted → next limit b n m ≡ after limit b m
+pub next-at : (limit : ℕ) (b : Book) (n : ℕ) (m : List ℕ) → 1 ≤ n → n ≤ 4294967295 → n ≡ b .wanted → next limit b n m ≡ after limit b m
 unfolding next
 next-at limit b n m l h e =
     let w : lowest (numberTable (b .wanted) n) ≡ 0 = number-wanted true (b .wanted) n .1 (record { sound = refl; wanted = e; least = l; greatest = h }) in
     rw w
 
 -- at any other
-next-other : (limit : ℕ) (b : Book) (n : ℕ) (m : List ℕ) → (n ≡ b .wanted → ⊥) → next limit b n m ≡ b
+pub next-other : (limit : ℕ) (b : Book) (n : ℕ) (m : List ℕ) → (n ≡ b .wanted → ⊥) → next limit b n m ≡ b
 unfolding next
 next-other limit b n m ne =
     let z = ne-eqb (lowest (numberTable (b .wanted) n)) 0 (λ e. ne (number-wanted true (b .wanted) n .0 e .wanted)) in
     rw z
 
-after-wanted : (limit : ℕ) (b : Book) (m : List ℕ) → after limit b m .wanted ≡ suc (b .wanted)
+pub after-wanted : (limit : ℕ) (b : Book) (m : List ℕ) → after limit b m .wanted ≡ suc (b .wanted)
 unfolding after taking passedOver
 after-wanted limit b m = go (eqb (content limit b m) 0)
   where
@@ -121,7 +121,7 @@ module _ (limit : ℕ) (day : ℕ → List ℕ) (N : ℕ) (fits : N ≤ 42949672
           let q : k ≡ suc j = eqb-true k (suc j) e in
           let g : got (suc (suc j)) (numbers l) + suc j ≡ got (suc j) (k ∷ numbers l) + j = omega (arith, got-at (suc j) k (numbers l) e) in
           ap (λ (x : Book). deliverEach limit x l)
-          (next-at limit (upTo j) k (a .message) (c .0 .0) (omega (arith, c .0 .1)) (q ∙ sym (play-wanted j)) ∙ ap (after limit (upTo j)) (c .0 .2 ∙ ap day q) ∙ play-more j)
+          (next-at limit (upTo j) k (a .message) (omega arith) (omega (arith, c .0 .0)) (q ∙ sym (play-wanted j)) ∙ ap (after limit (upTo j)) (c .0 .1 (omega arith) ∙ ap day q) ∙ play-more j)
           ∙ more
           ∙ ap upTo g
       go false e more same = rw (next-other limit (upTo j) k (a .message) (λ q. eqb-false k (suc j) e (q ∙ play-wanted j)), got-other (suc j) k (numbers l) e) same
@@ -141,7 +141,7 @@ Below N (k ∷ ks) = (k ≤ N) × Below N ks
 
 copies-below : (day : ℕ → List ℕ) (N : ℕ) (l : List Arrival) → Copies day N l → Below N (numbers l)
 copies-below day N [] c = tt
-copies-below day N (a ∷ l) c = (c .0 .1, copies-below day N l (c .1))
+copies-below day N (a ∷ l) c = (c .0 .0, copies-below day N l (c .1))
 
 below-sub : (N : ℕ) {l ks : List ℕ} → Sublistᴰ l ks → Below N ks → Below N l
 below-sub N Sublistᴰ·slnil w = tt

@@ -17,7 +17,7 @@ use Rattle.store.specs.Changed.{dead}
 use Rattle.table.specs.Table.{isFound, borne, deadAt, listed}
 use Rattle.table.proofs.Tables.{found-counted}
 use Rattle.clerk.specs.Steps.{lineFound, killFound}
-use Rattle.clerk.specs.Claims.{NoRepeat}
+use Rattle.clerk.specs.Claims.{NoRepeat, keysOf}
 
 -- ---- tests
 
@@ -98,9 +98,6 @@ unfolding first
 first-miss serves x xs e = rw e (first-up serves xs 0)
 
 -- ---- keys of lines
-
-abbrev pub keysOf : List Line → List (List ℕ)
-keysOf ls = map (λ (l : Line). l .key) ls
 
 pub borne-is : (key : List ℕ) (ls : List Line) → borne key ls ≡ listed key (keysOf ls)
 unfolding first

@@ -19,9 +19,9 @@ use Rattle.walk.specs.Meaning.{Are}
 use Rattle.walk.proofs.Meaning.{figures-are, figures-one}
 use Rattle.show.specs.Showing.{shownOf}
 use Rattle.clerk.specs.Clerk.{Listing, symbolsIn, Taken, phaseAfter, Origin, originOf, names, trade, made, tradesBut, tradesOf, takenOf, rowOf, shownBy, bookBy, clerkBook}
-use Rattle.clerk.specs.Claims.{NoRepeat, namedIn, MadeLive}
+use Rattle.clerk.specs.Claims.{NoRepeat, keysOf, namedIn, MadeLive}
 use Rattle.clerk.proofs.Letters.{Passed}
-use Rattle.clerk.proofs.Lines.{or-false-left, or-false-right, or-swap, listed-append, keysOf, borne-is, named, named-hit, named-append, named-live}
+use Rattle.clerk.proofs.Lines.{or-false-left, or-false-right, or-swap, listed-append, borne-is, named, named-hit, named-append, named-live}
 use Rattle.clerk.proofs.Sim.{brings, keys-cut, keys-more, lively, Took, took}
 
 -- ---- at most once

@@ -25,11 +25,11 @@ use Rattle.table.specs.Messages.{isEvent, isSummary, namesOld, makesNew, phaseO
 use Rattle.table.specs.Table.{lowest, listed, symbolsOf, contentTable, listTable}
 use Rattle.table.specs.Taking.{madeLine, correctedLine}
 use Rattle.clerk.specs.Steps.{Book, lineFound, killFound, linesAfter, kept, keepFound, rowsAfter, taking, passedOver, content, after}
-use Rattle.clerk.specs.Clerk.{Listing, symbolsIn, sheetFrom, Taken, phaseAfter, Origin, originOf, names, trade, made, tradesBut, tradesOf, takenOf, summaryOf, reportedOf, rowOf, bookBy, clerkBook}
+use Rattle.clerk.specs.Clerk.{Listing, symbolsIn, sheetFrom, Taken, phaseAfter, Origin, originOf, names, trade, made, tradesBut, tradesOf, answerTo, takenOf, summaryOf, reportedOf, rowOf, bookBy, clerkBook}
 use Rattle.clerk.specs.Arrivals.{play}
-use Rattle.clerk.specs.Claims.{NoRepeat}
+use Rattle.clerk.specs.Claims.{NoRepeat, keysOf}
 use Rattle.clerk.proofs.Letters.{Tests, Letter, S, T, X, C, J, none, letter-of, Passed, passed, listable}
-use Rattle.clerk.proofs.Lines.{or-false-left, or-false-right, or-swap, same-refl, same-comm, listed-append, no-repeat-snoc, no-repeat-left, no-repeat-last, up, first-hit, first-miss, keysOf, borne-is, named, named-hit, named-miss, named-none, named-append, kill, kill-found}
+use Rattle.clerk.proofs.Lines.{or-false-left, or-false-right, or-swap, same-refl, same-comm, listed-append, no-repeat-snoc, no-repeat-left, no-repeat-last, up, first-hit, first-miss, borne-is, named, named-hit, named-miss, named-none, named-append, kill, kill-found}
 
 -- ---- the keys of the trades
 
@@ -280,24 +280,20 @@ module _ (sheet : List Listing) (limit : ℕ) where
   Took [] = Unit {0}
   Took (e ∷ es) = Passed (phaseAfter es) (symbolsIn sheet) (tradesOf es) limit (e .message) × Took es
 
-  -- what he answers to the next message
-  abbrev answer : List Taken → List ℕ → ℕ
-  answer es m = lowest (contentTable (phaseAfter es) (symbolsIn sheet) (tradesOf es) limit (readOf m))
-
   pub took : (ms : List (List ℕ)) → Took (takenOf sheet limit ms)
   unfolding takenOf
   took [] = tt
-  took (m ∷ ms) = go (eqb (answer (takenOf sheet limit ms) m) 0) refl (took ms)
+  took (m ∷ ms) = go (eqb (answerTo sheet limit (takenOf sheet limit ms) m) 0) refl (took ms)
     where
       es : List Taken
       es = takenOf sheet limit ms
 
-      go : (t : Bool) → eqb (answer es m) 0 ≡ t → Took es → Took (cond t (record { number = suc (length ms); message = readOf m .found } ∷ es) es)
-      go true t i = (passed (phaseAfter es) (symbolsIn sheet) (tradesOf es) limit (readOf m) (eqb-true (answer es m) 0 t), i)
+      go : (t : Bool) → eqb (answerTo sheet limit es m) 0 ≡ t → Took es → Took (cond t (record { number = suc (length ms); message = readOf m .found } ∷ es) es)
+      go true t i = (passed (phaseAfter es) (symbolsIn sheet) (tradesOf es) limit (readOf m) (eqb-true (answerTo sheet limit es m) 0 t), i)
       go false t i = i
 
   -- no two trades bear one key
-  pub unique : (es : List Taken) → Took es → NoRepeat (keysOf (tradesOf es))
+  unique : (es : List Taken) → Took es → NoRepeat (keysOf (tradesOf es))
   unfolding tradesBut
   unique [] w = tt
   unique (e ∷ es) w = rw (keys-more [] e es) (go (makesNew (e .message)) refl (unique es (w .1)))
@@ -306,9 +302,12 @@ module _ (sheet : List Listing) (limit : ℕ) where
       go true t u = no-repeat-snoc (keysOf (tradesOf es)) (newKey (e .message)) u (sym (borne-is (newKey (e .message)) (tradesOf es)) ∙ w .0 .isNew t)
       go false t u = rw append-nil u
 
+  pub one-trade-per-key : (ms : List (List ℕ)) → NoRepeat (keysOf (tradesOf (takenOf sheet limit ms)))
+  one-trade-per-key ms = unique (takenOf sheet limit ms) (took ms)
+
   -- ---- one used message
 
-  content-is : (es : List Taken) (n : ℕ) (m : List ℕ) → content limit (bookBy sheet es n) m ≡ answer es m
+  pub content-is : (es : List Taken) (n : ℕ) (m : List ℕ) → content limit (bookBy sheet es n) m ≡ answerTo sheet limit es m
   unfolding content bookBy
   content-is es n m = rw (symbols-are es sheet)
 
@@ -322,21 +321,24 @@ module _ (sheet : List Listing) (limit : ℕ) where
         let r = readOf m .found in
         rw (phase-step (suc n) r es, rows-step (suc n) r es sheet d, lines-step (suc n) r es u, add-one (suc n), add-one (length es), sym (lines-count (suc n) r es))
 
-    after-is : after limit (bookBy sheet es n) m ≡ bookBy sheet (cond (eqb (answer es m) 0) more es) (suc n)
+    after-is : after limit (bookBy sheet es n) m ≡ bookBy sheet (cond (eqb (answerTo sheet limit es m) 0) more es) (suc n)
     unfolding after passedOver bookBy
-    after-is = rw (content-is es n m) (go (eqb (answer es m) 0))
+    after-is = rw (content-is es n m) (go (eqb (answerTo sheet limit es m) 0))
       where
         go : (t : Bool) → cond t (taking (readOf m .found) (bookBy sheet es n)) (passedOver (bookBy sheet es n)) ≡ bookBy sheet (cond t more es) (suc n)
         go true = taking-is
         go false = rw (add-one (suc n))
 
+  -- his book after one more used message is what the step makes of his book before it
+  pub clerk-after : NoRepeat (symbolsIn sheet) → (ms : List (List ℕ)) (m : List ℕ) → after limit (clerkBook sheet limit ms) m ≡ clerkBook sheet limit (m ∷ ms)
+  unfolding clerkBook takenOf
+  clerk-after d ms m = after-is d (takenOf sheet limit ms) (length ms) m (one-trade-per-key ms)
+
   -- the book after any used messages is the clerk's
-  plays : NoRepeat (symbolsIn sheet) → (b : Book) → b ≡ bookBy sheet [] 0 → (ms : List (List ℕ)) → play limit b ms ≡ clerkBook sheet limit ms
-  unfolding play clerkBook takenOf
+  plays : NoRepeat (symbolsIn sheet) → (b : Book) → b ≡ clerkBook sheet limit [] → (ms : List (List ℕ)) → play limit b ms ≡ clerkBook sheet limit ms
+  unfolding play
   plays d b e [] = e
-  plays d b e (m ∷ ms) =
-      ap (λ (x : Book). after limit x m) (plays d b e ms)
-      ∙ after-is d (takenOf sheet limit ms) (length ms) m (unique (takenOf sheet limit ms) (took ms))
+  plays d b e (m ∷ ms) = ap (λ (x : Book). after limit x m) (plays d b e ms) ∙ clerk-after d ms m
 
 -- ---- from the listed sheet
 
@@ -353,12 +355,12 @@ listedBook sheet =
       taken = 0;
     }
 
-listed-is : (sheet : List Listing) → listedBook sheet ≡ bookBy sheet [] 0
-unfolding bookBy rowOf phaseAfter tradesBut summaryOf reportedOf
-listed-is sheet = refl
+pub listed-is : (sheet : List Listing) (limit : ℕ) → listedBook sheet ≡ clerkBook sheet limit []
+unfolding clerkBook takenOf bookBy rowOf phaseAfter tradesBut summaryOf reportedOf
+listed-is sheet limit = refl
 
 pub book-is-clerks : (sheet : List Listing) (limit : ℕ) → NoRepeat (symbolsIn sheet) → (ms : List (List ℕ)) → play limit (listedBook sheet) ms ≡ clerkBook sheet limit ms
-book-is-clerks sheet limit d ms = plays sheet limit d (listedBook sheet) (listed-is sheet) ms
+book-is-clerks sheet limit d ms = plays sheet limit d (listedBook sheet) (listed-is sheet limit) ms
 
 -- ---- no symbol is on a sheet twice
 

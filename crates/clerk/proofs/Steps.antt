@@ -195,7 +195,7 @@ module _ (c : Counters) (rows lines : List ℕ) (n : ℕ) (m : List ℕ) (safe :
   wanted-here e = number-wanted true (c .wanted) n .0 e
 
   -- the content decides
-  answer-is : Wanted true (c .wanted) n → deliverAnswer c rows lines n m ≡ content limit b m
+  pub answer-is : Wanted true (c .wanted) n → deliverAnswer c rows lines n m ≡ content limit b m
   unfolding deliverAnswer content bookOf
   answer-is w = rw safe (number-content true (c .wanted) n _ w)
 

@@ -22,10 +22,10 @@ pub record Arrival : Type 0 where
 abbrev pub numbers : List Arrival → List ℕ
 numbers l = map (λ (a : Arrival). a .number) l
 
--- each arrival is a copy of the day's message of its number, and its number is one of the day's N
+-- no number is above N, and what bears a number from 1 on is a copy of the day's message of that number
 abbrev pub Copies : (ℕ → List ℕ) → ℕ → List Arrival → Type 0
 Copies day N [] = Unit {0}
-Copies day N (a ∷ l) = ((1 ≤ a .number) × (a .number ≤ N) × (a .message ≡ day (a .number))) × Copies day N l
+Copies day N (a ∷ l) = ((a .number ≤ N) × (1 ≤ a .number → a .message ≡ day (a .number))) × Copies day N l
 
 -- the messages 1 to n, the newest first
 unfoldable pub upto : (ℕ → List ℕ) → ℕ → List (List ℕ)

@@ -1,18 +1,25 @@
--- What the theorems say of lists: that nothing stands in one twice, which keys were named, and which message made a trade that is live.
+-- What the theorems say of lists: that nothing stands in one twice, which keys were named, which message made a trade that is live,
+-- and which messages were used.
 -- Assumes nothing.
-use Prim.Native.Nat.{ℕ}
+use Prim.Native.Nat.{ℕ, zero, suc}
 use mathlib.Core.Path.{_≡_}
-use mathlib.Core.List.{List, [], _∷_, _++_}
+use mathlib.Core.List.{List, [], _∷_, _++_, map}
 use mathlib.Core.Bool.{true, false}
+use Rattle.message.specs.Answers.{answerOf}
+use Rattle.message.specs.declared.answer.Answer.{Answer}
 use Rattle.store.specs.declared.lines.Line.{Line}
 use Rattle.table.specs.Messages.{makesNew, newKey}
 use Rattle.table.specs.Table.{listed}
-use Rattle.clerk.specs.Clerk.{Taken, names, originOf, trade}
+use Rattle.clerk.specs.Clerk.{Listing, Taken, names, originOf, trade, answerTo, takenOf}
+use Rattle.clerk.specs.Arrivals.{upto}
 
 -- no text stands in the list twice
 abbrev pub NoRepeat : List (List ℕ) → Type 0
 NoRepeat [] = Unit {0}
 NoRepeat (k ∷ ks) = (listed k ks ≡ false) × NoRepeat ks
+
+abbrev pub keysOf : List Line → List (List ℕ)
+keysOf ls = map (λ (l : Line). l .key) ls
 
 -- the keys that taken X and C named
 unfoldable pub namedIn : List Taken → List (List ℕ)
@@ -28,3 +35,20 @@ pub record MadeLive (es : List Taken) (l : Line) : Type 0 where
   pub makes : makesNew (maker .message) ≡ true
   pub line : l ≡ trade maker (originOf (maker ∷ earlier) (newKey (maker .message))) []
   pub unnamed : listed (newKey (maker .message)) (namedIn later) ≡ false
+
+-- a message that used up its number, and what was said back
+pub record Used : Type 0 where
+  pub number : ℕ
+  pub message : List ℕ
+  pub answer : Answer
+
+-- the n messages after the first j, each answered as the clerk answers it, who knows those before it
+unfoldable pub usedAfter : (ℕ → List ℕ) → List Listing → ℕ → ℕ → ℕ → List Used
+usedAfter day sheet limit j zero = []
+usedAfter day sheet limit j (suc n) =
+    record {
+      number = suc j;
+      message = day (suc j);
+      answer = answerOf (answerTo sheet limit (takenOf sheet limit (upto day j)) (day (suc j)));
+    }
+    ∷ usedAfter day sheet limit (suc j) n

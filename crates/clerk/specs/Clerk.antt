@@ -97,14 +97,16 @@ tradesOf es = tradesBut [] es
 
 -- ---- which messages are taken
 
--- a message is taken if the table, worked from the sheet, the room and the used messages before it, gives 0
+-- what the table gives for a message, worked from the sheet, the room and the taken messages before it
+abbrev pub answerTo : List Listing → ℕ → List Taken → List ℕ → ℕ
+answerTo sheet limit es m = lowest (contentTable (phaseAfter es) (symbolsIn sheet) (tradesOf es) limit (readOf m))
+
+-- a message is taken if that is 0
 unfoldable pub takenOf : List Listing → ℕ → List (List ℕ) → List Taken
 takenOf sheet limit [] = []
 takenOf sheet limit (m ∷ ms) =
     let es = takenOf sheet limit ms in
-    cond (eqb (lowest (contentTable (phaseAfter es) (symbolsIn sheet) (tradesOf es) limit (readOf m))) 0)
-    (record { number = suc (length ms); message = readOf m .found } ∷ es)
-    es
+    cond (eqb (answerTo sheet limit es m) 0) (record { number = suc (length ms); message = readOf m .found } ∷ es) es
 
 -- ---- rows
 
