@@ -1,7 +1,7 @@
 -- From what each call works out, branch by branch, to what it promises.
 -- Assumes nothing.
 use mathlib.Core.Path.{_≡_, refl, ap, sym, _∙_}
-use mathlib.Core.Bool.{Bool, true, false, cond, not, _&&_, _||_, true≢false}
+use mathlib.Core.Bool.{Bool, true, false, cond, not, _&&_, _||_}
 use mathlib.Core.List.{List}
 use Prim.Native.Nat.{ℕ, _≤_}
 use native.Mathlib.Omega.{arith}
@@ -33,15 +33,11 @@ use Rattle.show.specs.Showing.{shownOf, nothingShown}
 use Rattle.book.specs.Calls.{numberAnswer, located, listAnswer, listSaid, listRows, deliverAnswer, deliverSaid, deliverRows, deliverLines, rowAnswer, rowShown}
 use Rattle.table.specs.Working.{judgedBy}
 use Rattle.book.proofs.Sound.{sound-gives}
-use Rattle.table.proofs.Tables.{listed-found, rows-full, judged-is, judged-row, judged-line, read-plain, Wanted, number-wanted, number-content, number-refused}
+use Rattle.table.proofs.Tables.{listed-found, rows-full, judged-is, judged-row, judged-line, read-plain, neither, Wanted, number-wanted, number-content, number-refused}
 use Rattle.book.proofs.Demand1.{answers-listed, refused-keeps}
 
 said-is : (s : Said) (a : Answer) (k : Counters) → a ≡ s .answer → k ≡ s .counters → record { answer = a; counters = k } ≡ s
 said-is s a k e f = rw (e, f)
-
-neither : (a b : Bool) → (a || b) ≡ false → (a ≡ false) × (b ≡ false)
-neither false b e = (refl, e)
-neither true b e = absurd (true≢false e)
 
 -- above is not at most
 above-is : (x y : ℕ) → ltb y x ≡ not (leb x y)

@@ -217,7 +217,7 @@ module _ (R L : ℕ) where
           ∙ ap (λ (x : ℕ). content (lineLimit x) b message) (h .lineRoom)
           )
 
-  delivers-are : {c : Counters} {rows lines : List ℕ} {l : List Arrival} {d : Counters} {endRows endLines : List ℕ} (b : Book)
+  pub delivers-are : {c : Counters} {rows lines : List ℕ} {l : List Arrival} {d : Counters} {endRows endLines : List ℕ} (b : Book)
       → Delivers c rows lines l d endRows endLines → Stands R L b c rows lines → Stands R L (deliverEach (lineLimit L) b l) d endRows endLines
   unfolding deliverEach
   delivers-are b no-message h = h

@@ -9,3 +9,4 @@ pub mod Wall
 pub mod Demand3
 pub mod Runs
 pub mod PDays
+pub mod Premises

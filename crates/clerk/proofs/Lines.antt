@@ -15,19 +15,17 @@ use Rattle.store.specs.Search.{first}
 use Rattle.store.specs.Lines.{bears, lineWith, noLine}
 use Rattle.store.specs.Changed.{dead}
 use Rattle.table.specs.Table.{isFound, borne, deadAt, listed}
-use Rattle.table.proofs.Tables.{found-counted}
+use Rattle.table.proofs.Tables.{neither, found-counted}
 use Rattle.clerk.specs.Steps.{lineFound, killFound}
 use Rattle.clerk.specs.Claims.{NoRepeat, keysOf}
 
 -- ---- tests
 
 pub or-false-left : (a b : Bool) → (a || b) ≡ false → a ≡ false
-or-false-left true b e = e
-or-false-left false b e = refl
+or-false-left a b e = neither a b e .0
 
 pub or-false-right : (a b : Bool) → (a || b) ≡ false → b ≡ false
-or-false-right true b e = absurd (true≢false e)
-or-false-right false b e = e
+or-false-right a b e = neither a b e .1
 
 or-assoc : (a b c : Bool) → ((a || b) || c) ≡ (a || (b || c))
 or-assoc true b c = refl

@@ -3,3 +3,4 @@ pub mod Clerk
 pub mod Arrivals
 pub mod Claims
 pub mod Days
+pub mod Premises

@@ -386,10 +386,10 @@ pub record Wanted (b : Bool) (w n : ℕ) : Type 0 where
   pub least : 1 ≤ n
   pub greatest : n ≤ 4294967295
 
-either-false : (a b : Bool) → (a || b) ≡ false → (a ≡ false) × (b ≡ false)
-either-false false false e = (refl, refl)
-either-false false true e = absurd (true≢false e)
-either-false true b e = absurd (true≢false e)
+-- neither of two tests passes where either-of-them does not
+pub neither : (a b : Bool) → (a || b) ≡ false → (a ≡ false) × (b ≡ false)
+neither false b e = (refl, e)
+neither true b e = absurd (true≢false e)
 
 -- the number is not refused exactly where the book is sound, and it is the wanted one and at most 4,294,967,295
 pub number-wanted : (b : Bool) (w n : ℕ) → (inBook b (numberTable w n) ≡ 0) ↔ Wanted b w n
@@ -402,7 +402,7 @@ number-wanted b w n = (go b refl (eqb n 0 || ltb 4294967295 n) refl (ltb n w) re
     go true s false ex true ey z ez e = absurd (omega arith)
     go true s false ex false ey true ez e = absurd (omega arith)
     go true s false ex false ey false ez e =
-        let p = either-false (eqb n 0) (ltb 4294967295 n) ex in
+        let p = neither (eqb n 0) (ltb 4294967295 n) ex in
         let some : n ≡ 0 → ⊥ = eqb-false n 0 (p .0) in
         let fits = ltb-false 4294967295 n (p .1) in
         let a = ltb-false n w ey in

@@ -1,11 +1,16 @@
 -- `book::list` meets its contract.
 -- Assumes nothing.
-use mathlib.Core.Path.{sym, _∙_}
+use mathlib.Core.Path.{_≡_, sym, _∙_}
 use native.Mathlib.Omega.{arith}
+use lib.ListN.{length}
 use Rattle.book.proofs.Steps.{list-refused, list-fits, list-said, list-rows}
 use borrow.Author.Needs.{needs}
 use Rattle.book.proofs.list.Statement.{statement}
 use Rattle.book.proofs.list.Tie as tie
+
+-- a listed symbol is eight bytes
+pub entered : (c : tie.Start) → length (c .args .symbol) ≡ 8
+entered c = search needs
 
 judge-listing-requires : tie.Need-judge-listing-requires
 judge-listing-requires c κs = search needs

@@ -1,0 +1,53 @@
+-- Nothing that one true day asks for can be left out: for each there is a day on which the book is not the clerk's.
+-- Assumes nothing.
+use Prim.Native.Nat.{ℕ, zero, suc, _≤_}
+use mathlib.Core.Path.{_≡_, refl, sym, ap, subst, _∙_}
+use mathlib.Core.List.{List}
+use native.Mathlib.Omega.{arith}
+use borrow.Author.Tests.{eq-eqb}
+use lib.Dec.{eqb}
+use lib.ListN.{length}
+use Rattle.book.specs.declared.counters.Counters.{Counters}
+use Rattle.book.proofs.Sound.{sound-gives}
+use Rattle.store.specs.Rows.{rowLimit}
+use Rattle.clerk.specs.Clerk.{Listing, sheetOf}
+use Rattle.clerk.specs.Arrivals.{run, Largest, Arrival, numbers}
+use Rattle.clerk.specs.Premises.{Breaks, begun}
+use Rattle.clerk.proofs.InOrder.{got, got-at, largest-got}
+use Rattle.clerk.proofs.Sim.{listedBook}
+use Rattle.clerk.proofs.Demand3.{Day, sheet-stands, delivers-are}
+
+got-run : (w n : ℕ) → got w (run w n) ≡ n
+unfolding got run
+got-run w zero = refl
+got-run w (suc n) = got-at w w (run (suc w) n) (eq-eqb w w refl) ∙ ap suc (got-run (suc w) n)
+
+-- where 1 to n come once each, in order, n is the largest
+pub largest-run : (n : ℕ) → Largest (run 1 n) n
+largest-run n = subst (Largest (run 1 n)) (got-run 1 n) (largest-got (run 1 n))
+
+pub premises-needed : Breaks
+unfolding begun run
+premises-needed =
+    record {
+      otherBytes = (refl, refl);
+      aboveLast = (largest-run 2, λ h. omega (arith, h));
+      otherOrder = (refl, refl);
+      notLargest = (refl, refl);
+      notFresh = (refl, refl);
+      lateListing = (refl, refl);
+      otherRoom = (refl, refl);
+      oldCounters = (refl, refl);
+    }
+
+-- N is at most 4,294,967,295: no day brings a book past wanting the number after that
+pub last-wanted : {rows lines : List ℕ} {ls : List Listing} {l : List Arrival} {d : Counters} {endRows endLines : List ℕ}
+    → Day rows lines ls l d endRows endLines → d .wanted ≤ 4294967296
+last-wanted {rows} {lines} {ls} {l} {d} {endRows} {endLines} h =
+    let e = delivers-are (length rows) (length lines) (listedBook (sheetOf (rowLimit (length rows)) ls)) (h .delivers) (sheet-stands h) in
+    sound-gives d (length endRows) (length endLines) (e .safe) .greatest
+
+-- so of a day of one message more the last is not used, though it comes in order
+pub one-too-many : {rows lines : List ℕ} {ls : List Listing} {l : List Arrival} {d : Counters} {endRows endLines : List ℕ}
+    → Day rows lines ls l d endRows endLines → numbers l ≡ run 1 4294967296 → Largest (numbers l) 4294967296 × (d .wanted ≡ 4294967297 → ⊥)
+one-too-many h e = (subst (λ (ks : List ℕ). Largest ks 4294967296) (sym e) (largest-run 4294967296), λ w. omega (arith, w, last-wanted h))

@@ -1,0 +1,68 @@
+-- What a day comes to without one of the things that its theorems ask for: small days, each with what the calls leave and what the
+-- clerk says, which differ. The day's messages are event O, a trade and its cancel.
+-- Assumes nothing.
+use Prim.Native.Nat.{ℕ, _≤_}
+use mathlib.Core.Path.{_≡_}
+use mathlib.Core.List.{List, [], _∷_}
+use lib.ListN.{replicate}
+use Rattle.store.specs.Lines.{lineLimit}
+use Rattle.store.specs.Rows.{rowLimit}
+use Rattle.book.specs.Counting.{freshCounters, usedUp}
+use Rattle.book.specs.Calls.{listSaid, deliverSaid}
+use Rattle.clerk.specs.Steps.{Book}
+use Rattle.clerk.specs.Clerk as Clerk
+use Rattle.clerk.specs.Clerk.{sheetOf, clerkBook}
+use Rattle.clerk.specs.Arrivals.{Largest, upto}
+use Rattle.clerk.specs.Days.{abcd, q1, event, trade, cancel, dayOf, rowsRoom, linesRoom, Kept, opened, given, keptAfter, clerkShows}
+
+abbrev pub day : ℕ → List ℕ
+day = dayOf (event 1 79 ∷ trade 2 81 q1 100 ∷ cancel 3 81 q1 200 ∷ [])
+
+-- the clerk's book after the first n
+unfoldable pub clerks : ℕ → Book
+unfolding clerkShows Clerk.bookBy Clerk.clerkBook
+clerks n = clerkBook (sheetOf (rowLimit rowsRoom) (record { symbol = abcd; close = 250000 } ∷ [])) (lineLimit linesRoom) (upto day n)
+
+-- the book with the sheet finished, and with nothing done
+unfoldable pub ready : Kept
+unfolding clerks
+ready = opened 250000
+
+unfoldable pub untouched : Kept
+unfolding ready
+untouched = record { counters = freshCounters; rows = replicate rowsRoom 35; lines = replicate linesRoom 35 }
+
+-- the book after these arrivals
+unfoldable pub afterThese : List ℕ → Kept
+unfolding untouched
+afterThese ns = keptAfter day ready ns
+
+-- ready, but a number is used up already
+unfoldable pub begun : Kept
+unfolding afterThese
+begun = record { counters = usedUp (ready .counters); rows = ready .rows; lines = ready .lines }
+
+pub record Breaks : Type 0 where
+  -- a copy with other bytes: number 1 comes as event S, and the day has event O
+  pub otherBytes : (given ready 1 (event 1 83) .counters .phase ≡ 2) × (clerks 1 .phase ≡ 1)
+  -- a number above N: 1 and 2 come, where N is 1
+  pub aboveLast : Largest (1 ∷ 2 ∷ []) 2 × (2 ≤ 1 → ⊥)
+  -- n counts numbers that did not come in order: 2, then 1
+  pub otherOrder : (afterThese (2 ∷ 1 ∷ []) .counters .wanted ≡ 2) × (clerks 2 .wanted ≡ 3)
+  -- n is less than came in order
+  pub notLargest : (afterThese (1 ∷ 2 ∷ []) .counters .wanted ≡ 3) × (clerks 1 .wanted ≡ 2)
+  -- the book is not fresh: it has used up a number before
+  pub notFresh : (keptAfter day begun (1 ∷ []) .counters .taken ≡ 0) × (clerks 1 .taken ≡ 1)
+  -- the sheet is not finished first
+  pub lateListing :
+      let k = given untouched 1 (day 1) in
+      (listSaid (k .counters) (k .rows) (k .lines) abcd 250000 .counters .rows ≡ 0) × (clerks 1 .listed ≡ 1)
+  -- another room for lines is lent between two calls
+  pub otherRoom :
+      let k = afterThese (1 ∷ 2 ∷ []) in
+      (deliverSaid (k .counters) (k .rows) (replicate linesRoom 35) 3 (day 3) .counters .taken ≡ 2) × (clerks 3 .taken ≡ 3)
+  -- the counters of an earlier call are handed in again
+  pub oldCounters :
+      let k = afterThese (1 ∷ 2 ∷ []) in
+      let j = given k 3 (day 3) in
+      (deliverSaid (k .counters) (j .rows) (j .lines) 3 (day 3) .counters .taken ≡ 2) × (clerks 3 .taken ≡ 3)
