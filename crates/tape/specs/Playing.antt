@@ -1,0 +1,107 @@
+-- A tape played on a book: each entry does what the book's promises say, one after the other.
+-- Assumes nothing.
+use Prim.Native.Nat.{ℕ, zero, suc, _+_}
+use mathlib.Core.List.{List, [], _∷_, _++_}
+use lib.ListN.{length, take, drop}
+use Rattle.book.specs.declared.counters.Counters.{Counters}
+use Rattle.book.specs.Calls.{listSaid, listRows, deliverSaid, deliverRows, deliverLines}
+use Rattle.tape.specs.Entries.{Entry, Listing, Message, headOf, entryOf}
+use Rattle.tape.specs.declared.Stop.{Stop}
+use Rattle.tape.specs.declared.Stop.the-variants.{Ended}
+use Rattle.tape.specs.declared.Played.{Played}
+use Rattle.tape.specs.declared.entries.Head.{Head}
+use Rattle.tape.specs.declared.entries.Head.the-variants.{Whole, Stops}
+
+-- ---- one entry
+
+-- a book: its counters, and the lent bytes of its rows and lines
+pub record State : Type 0 where
+  pub counters : Counters
+  pub rows : List ℕ
+  pub lines : List ℕ
+
+abbrev pub stateOf : Counters → List ℕ → List ℕ → State
+stateOf c rows lines = record { counters = c; rows = rows; lines = lines }
+
+-- what an entry does; what the book answers is passed over
+unfoldable pub acted : State → Entry → State
+acted s (Listing symbol close) =
+    record {
+      counters = listSaid (s .counters) (s .rows) (s .lines) symbol close .counters;
+      rows = listRows (s .counters) (s .rows) (s .lines) symbol close;
+      lines = s .lines;
+    }
+acted s (Message kind number message) =
+    record {
+      counters = deliverSaid (s .counters) (s .rows) (s .lines) number message .counters;
+      rows = deliverRows (s .counters) (s .rows) (s .lines) number message;
+      lines = deliverLines (s .counters) (s .rows) (s .lines) number message;
+    }
+
+-- each entry in order
+unfoldable pub actedAll : State → List Entry → State
+actedAll s [] = s
+actedAll s (e ∷ es) = actedAll (acted s e) es
+
+-- ---- a play
+
+-- the book after it, how many bytes it used, and why it stopped
+pub record Play : Type 0 where
+  pub state : State
+  pub used : ℕ
+  pub stop : Stop
+
+abbrev pub stopped : State → Stop → Play
+stopped s w = record { state = s; used = 0; stop = w }
+
+-- a play that came after n bytes
+abbrev pub further : ℕ → Play → Play
+further n p = record { state = p .state; used = n + p .used; stop = p .stop }
+
+abbrev pub onHead {ℓ} : {A : Type ℓ} → Head → (Stop → A) → (ℕ → A) → A
+onHead (Stops w) f g = f w
+onHead (Whole n) f g = g n
+
+-- at most that many entries; an entry has a byte or more, so that a list has no more of them than bytes
+unfoldable pub playSome : ℕ → State → List ℕ → Play
+playSome zero s b = stopped s Ended
+playSome (suc k) s b = onHead (headOf b) (λ w. stopped s w) (λ n. further n (playSome k (acted s (entryOf (take n b))) (drop n b)))
+
+unfoldable pub play : State → List ℕ → Play
+play s b = playSome (length b) s b
+
+-- ---- what a call of it promises
+
+unfoldable pub played : State → List ℕ → Played
+played s b = record { counters = play s b .state .counters; used = play s b .used; stop = play s b .stop }
+
+unfoldable pub playRows : State → List ℕ → List ℕ
+playRows s b = play s b .state .rows
+
+unfoldable pub playLines : State → List ℕ → List ℕ
+playLines s b = play s b .state .lines
+
+-- ---- piece by piece
+
+-- a play that goes on: what was played so far, and the bytes that it left over
+pub record Held : Type 0 where
+  pub so : Play
+  pub left : List ℕ
+
+-- the bytes that a play of b left over
+abbrev pub held : State → List ℕ → Held
+held s b = record { so = play s b; left = drop (play s b .used) b }
+
+-- one piece more, played with what was left over before it
+unfoldable pub feed : Held → List ℕ → Held
+feed h piece =
+    let p = play (h .so .state) (h .left ++ piece) in
+    record { so = further (h .so .used) p; left = drop (p .used) (h .left ++ piece) }
+
+unfoldable pub feedAll : Held → List (List ℕ) → Held
+feedAll h [] = h
+feedAll h (piece ∷ pieces) = feedAll (feed h piece) pieces
+
+abbrev pub joined : List (List ℕ) → List ℕ
+joined [] = []
+joined (piece ∷ pieces) = piece ++ joined pieces
