@@ -1,2 +1,4 @@
 pub mod Heads
 pub mod Plays
+pub mod Pieces
+pub mod Tapes

@@ -62,7 +62,7 @@ module _ (c : Counters) (rows lines b : List ℕ) where
 
 -- ---- how many entries are allowed does not matter
 
-shorter : (b : List ℕ) (n k : ℕ) → headOf b ≡ Whole n → length b ≤ suc k → length (drop n b) ≤ k
+pub shorter : (b : List ℕ) (n k : ℕ) → headOf b ≡ Whole n → length b ≤ suc k → length (drop n b) ≤ k
 shorter b n k e l = omega (arith, length-drop n b, standing-within b n e)
 
 pub enough : (k j : ℕ) (s : State) (b : List ℕ) → length b ≤ k → length b ≤ j → playSome k s b ≡ playSome j s b

@@ -88,20 +88,27 @@ pub record Held : Type 0 where
   pub so : Play
   pub left : List ℕ
 
--- the bytes that a play of b left over
+-- nothing played and nothing left over
+abbrev pub begun : State → Held
+begun s = record { so = stopped s Ended; left = [] }
+
+-- all of b played at once
 abbrev pub held : State → List ℕ → Held
 held s b = record { so = play s b; left = drop (play s b .used) b }
 
--- one piece more, played with what was left over before it
+-- one piece more, played behind what was left over before it
 unfoldable pub feed : Held → List ℕ → Held
 feed h piece =
-    let p = play (h .so .state) (h .left ++ piece) in
-    record { so = further (h .so .used) p; left = drop (p .used) (h .left ++ piece) }
+    record {
+      so = further (h .so .used) (play (h .so .state) (h .left ++ piece));
+      left = drop (play (h .so .state) (h .left ++ piece) .used) (h .left ++ piece);
+    }
 
 unfoldable pub feedAll : Held → List (List ℕ) → Held
 feedAll h [] = h
 feedAll h (piece ∷ pieces) = feedAll (feed h piece) pieces
 
+-- the pieces put together
 abbrev pub joined : List (List ℕ) → List ℕ
 joined [] = []
 joined (piece ∷ pieces) = piece ++ joined pieces
