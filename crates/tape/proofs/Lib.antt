@@ -2,3 +2,6 @@ pub mod Heads
 pub mod Plays
 pub mod Pieces
 pub mod Tapes
+pub mod Lengths
+pub mod DayW
+pub mod Promise

@@ -9,7 +9,7 @@ use native.Mathlib.Omega.{arith}
 use borrow.Author.Tests.{eqb-true, eqb-false, eq-eqb, ne-eqb}
 use lib.Dec.{eqb, leb, lit<}
 use lib.ListN.{length, take, drop, getD, length-append, length-drop, take-append-drop}
-use lib.Seq.{getD-take, getD-drop, take-append-seam, drop-append-seam, length-take-le}
+use lib.Seq.{getD-drop, getD-append-add, take-append-seam, drop-append-seam, length-take-le}
 use Rattle.octets.specs.Run.{part, Bytes}
 use Rattle.octets.specs.Number.{be, digits}
 use Rattle.octets.proofs.Laws.{part-length, be-below, digits-length}
@@ -95,6 +95,9 @@ entry-head (Message k n m) more z = message-head k n m (z .0) (z .1) (z .2) more
 bytes-drop : (b : List ℕ) (n : ℕ) → Bytes b → Bytes (drop n b)
 bytes-drop b n h i = rw getD-drop (h (n + i))
 
+bytes-behind : (a b : List ℕ) → Bytes (a ++ b) → Bytes b
+bytes-behind a b h i = rw getD-append-add at (h (length a + i))
+
 bytes-take : (b : List ℕ) (n : ℕ) → Bytes b → Bytes (take n b)
 bytes-take [] zero h i = h i
 bytes-take [] (suc n) h i = h i
@@ -146,3 +149,142 @@ module _ (k : ℕ) (body : List ℕ) (known : bodyLength k ≡ 0 → ⊥) (long 
       go : (t : Bool) → eqb k 76 ≡ t → (bytesOf (entryOf all) ≡ all) × Sized (entryOf all)
       go true t = rw t (listing-back (eqb-true k 76 t))
       go false t = rw t (message-back (eqb-false k 76 t))
+
+-- an entry that stands at the head of bytes: those bytes are its, and it has its size
+pub entry-found : (b : List ℕ) (n : ℕ) → Bytes b → headOf b ≡ Whole n → (bytesOf (entryOf (take n b)) ≡ take n b) × Sized (entryOf (take n b))
+entry-found b n h e =
+    let w = standing b n e in
+    let t : take n b ≡ w .kind ∷ take (bodyLength (w .kind)) (w .after) = ap (λ (x : List ℕ). take n x) (w .bytes) ∙ ap (λ (x : ℕ). take x (w .kind ∷ w .after)) (w .size) in
+    let l : length (take (bodyLength (w .kind)) (w .after)) ≡ bodyLength (w .kind) = length-take-le (bodyLength (w .kind)) (w .after) (w .fits) in
+    rw t (entry-back (w .kind) (take (bodyLength (w .kind)) (w .after)) (w .known) l (rw t at (bytes-take b n h)))
+
+-- ---- entries and a rest
+
+-- where a play would stop no entry stands
+stops-ends : (b : List ℕ) (w : Stop) → headOf b ≡ Stops w → (e : Entry) (more : List ℕ) → Sized e → b ≡ bytesOf e ++ more → ⊥
+stops-ends b w h e more z f = never (sym h ∙ ap headOf f ∙ entry-head e more z)
+
+-- bytes with an entry before them
+tape-more : {b : List ℕ} {es : List Entry} {rest : List ℕ} (e : Entry) → Sized e → Tape b es rest → Tape (bytesOf e ++ b) (e ∷ es) rest
+tape-more {b} {es} {rest} e z t =
+    record {
+      bytes = ap (λ (x : List ℕ). bytesOf e ++ x) (t .bytes) ∙ sym (append-assoc (bytesOf e) (tapeOf es) rest);
+      each = (z, t .each);
+      ends = t .ends;
+    }
+
+-- entries and a rest that the bytes are
+pub record Cut (b : List ℕ) : Type 0 where
+  pub entries : List Entry
+  pub rest : List ℕ
+  pub whole : Tape b entries rest
+
+cut-here : (b : List ℕ) (w : Stop) → headOf b ≡ Stops w → Cut b
+cut-here b w e = record { entries = []; rest = b; whole = record { bytes = refl; each = tt; ends = stops-ends b w e } }
+
+cut-later : (b : List ℕ) (n : ℕ) → Bytes b → headOf b ≡ Whole n → Cut (drop n b) → Cut b
+cut-later b n h e r =
+    let f = entry-found b n h e in
+    let g : bytesOf (entryOf (take n b)) ++ drop n b ≡ b = ap (λ (x : List ℕ). x ++ drop n b) (f .0) ∙ take-append-drop n b in
+    record {
+      entries = entryOf (take n b) ∷ r .entries;
+      rest = r .rest;
+      whole = rw g at (tape-more (entryOf (take n b)) (f .1) (r .whole));
+    }
+
+cut-for : (k : ℕ) (b : List ℕ) → length b ≤ k → Bytes b → Cut b
+unfolding headOf
+cut-for zero [] l h = cut-here [] Ended refl
+cut-for zero (x ∷ b) l h = absurd (omega arith)
+cut-for (suc k) b l h = go (headOf b) refl (λ n e. cut-for k (drop n b) (shorter b n k e l) (bytes-drop b n h))
+  where
+    go : (x : Head) → headOf b ≡ x → ((n : ℕ) → headOf b ≡ Whole n → Cut (drop n b)) → Cut b
+    go (Stops w) e r = cut-here b w e
+    go (Whole n) e r = cut-later b n h e (r n e)
+
+-- there is a way
+pub split : (b : List ℕ) → Bytes b → Cut b
+split b h = cut-for (length b) b (omega arith) h
+
+-- two entries at the head of the same bytes are one, and the same bytes follow
+same-entry : (e e′ : Entry) (more more′ : List ℕ) → Sized e → Sized e′ → bytesOf e ++ more ≡ bytesOf e′ ++ more′ → (e ≡ e′) × (more ≡ more′)
+same-entry e e′ more more′ z z′ f =
+    let h : Whole (length (bytesOf e)) ≡ Whole (length (bytesOf e′)) = sym (entry-head e more z) ∙ ap headOf f ∙ entry-head e′ more′ z′ in
+    let n : length (bytesOf e) ≡ length (bytesOf e′) = cc in
+    let t : take (length (bytesOf e)) (bytesOf e ++ more) ≡ take (length (bytesOf e′)) (bytesOf e′ ++ more′) = ap (λ (x : List ℕ). take (length (bytesOf e)) x) f ∙ ap (λ (x : ℕ). take x (bytesOf e′ ++ more′)) n in
+    let d : drop (length (bytesOf e)) (bytesOf e ++ more) ≡ drop (length (bytesOf e′)) (bytesOf e′ ++ more′) = ap (λ (x : List ℕ). drop (length (bytesOf e)) x) f ∙ ap (λ (x : ℕ). drop x (bytesOf e′ ++ more′)) n in
+    let b : bytesOf e ≡ bytesOf e′ = sym (take-append-seam (bytesOf e) more) ∙ t ∙ take-append-seam (bytesOf e′) more′ in
+    (sym (entry-again e z) ∙ ap entryOf b ∙ entry-again e′ z′, sym (drop-append-seam (bytesOf e) more) ∙ d ∙ drop-append-seam (bytesOf e′) more′)
+
+cons-same : {e e′ : Entry} {es es′ : List Entry} → e ≡ e′ → es ≡ es′ → e ∷ es ≡ e′ ∷ es′
+cons-same p q = cc
+
+-- there is one way only
+one-for : (es es′ : List Entry) (rest rest′ : List ℕ) → Each es → Each es′
+    → ((e : Entry) (more : List ℕ) → Sized e → rest ≡ bytesOf e ++ more → ⊥)
+    → ((e : Entry) (more : List ℕ) → Sized e → rest′ ≡ bytesOf e ++ more → ⊥)
+    → tapeOf es ++ rest ≡ tapeOf es′ ++ rest′ → (es ≡ es′) × (rest ≡ rest′)
+one-for [] [] rest rest′ z z′ n n′ f = (refl, f)
+one-for [] (e ∷ es) rest rest′ z z′ n n′ f = absurd (n e (tapeOf es ++ rest′) (z′ .0) (f ∙ append-assoc (bytesOf e) (tapeOf es) rest′))
+one-for (e ∷ es) [] rest rest′ z z′ n n′ f = absurd (n′ e (tapeOf es ++ rest) (z .0) (sym f ∙ append-assoc (bytesOf e) (tapeOf es) rest))
+one-for (e ∷ es) (e′ ∷ es′) rest rest′ z z′ n n′ f =
+    let g : bytesOf e ++ (tapeOf es ++ rest) ≡ bytesOf e′ ++ (tapeOf es′ ++ rest′) = sym (append-assoc (bytesOf e) (tapeOf es) rest) ∙ f ∙ append-assoc (bytesOf e′) (tapeOf es′) rest′ in
+    let s = same-entry e e′ (tapeOf es ++ rest) (tapeOf es′ ++ rest′) (z .0) (z′ .0) g in
+    let r = one-for es es′ rest rest′ (z .1) (z′ .1) n n′ (s .1) in
+    (cons-same (s .0) (r .0), r .1)
+
+pub split-one : {b : List ℕ} {es es′ : List Entry} {rest rest′ : List ℕ} → Tape b es rest → Tape b es′ rest′ → (es ≡ es′) × (rest ≡ rest′)
+split-one {b} {es} {es′} {rest} {rest′} t t′ = one-for es es′ rest rest′ (t .each) (t′ .each) (t .ends) (t′ .ends) (sym (t .bytes) ∙ t′ .bytes)
+
+-- bytes are entries and a rest in one way, and in no other
+pub record Exactly (b : List ℕ) : Type 0 where
+  pub cut : Cut b
+  pub only : (es : List Entry) (rest : List ℕ) → Tape b es rest → (es ≡ cut .entries) × (rest ≡ cut .rest)
+
+pub split-is : (b : List ℕ) → Bytes b → Exactly b
+split-is b h = record { cut = split b h; only = λ es rest t. split-one t (split b h .whole) }
+
+-- ---- the play of a tape
+
+-- where no entry stands, what stands says why
+end-is : (b : List ℕ) (w : Stop) → headOf b ≡ Stops w → w ≡ endOf b
+unfolding headOf
+end-is [] w e = cc
+end-is (k ∷ s) w e = go (eqb (bodyLength k) 0) refl (leb (bodyLength k) (length s)) refl
+  where
+    go : (t : Bool) → eqb (bodyLength k) 0 ≡ t → (u : Bool) → leb (bodyLength k) (length s) ≡ u → w ≡ endOf (k ∷ s)
+    go true t u v = let f : Stops NoKind ≡ Stops w = rw t at e in let g : w ≡ NoKind = cc in rw t g
+    go false t true v = absurd (never (sym (rw (t, v) at e)))
+    go false t false v = let f : Stops CutShort ≡ Stops w = rw (t, v) at e in let g : w ≡ CutShort = cc in rw t g
+
+ends-stops : (b : List ℕ) → Bytes b → ((e : Entry) (more : List ℕ) → Sized e → b ≡ bytesOf e ++ more → ⊥) → headOf b ≡ Stops (endOf b)
+ends-stops b h n = go (headOf b) refl
+  where
+    go : (x : Head) → headOf b ≡ x → headOf b ≡ Stops (endOf b)
+    go (Stops w) e = e ∙ ap Stops (end-is b w e)
+    go (Whole k) e =
+        let f = entry-found b k h e in
+        absurd (n (entryOf (take k b)) (drop k b) (f .1) (sym (ap (λ (x : List ℕ). x ++ drop k b) (f .0) ∙ take-append-drop k b)))
+
+-- an entry, and then what follows
+play-entry : (s : State) (e : Entry) (more : List ℕ) → Sized e → play s (bytesOf e ++ more) ≡ further (length (bytesOf e)) (play (acted s e) more)
+play-entry s e more z =
+    play-whole s (bytesOf e ++ more) (length (bytesOf e)) (entry-head e more z)
+    ∙ rw (take-append-seam (bytesOf e) more, drop-append-seam (bytesOf e) more, entry-again e z)
+
+play-entries : (s : State) (es : List Entry) (rest : List ℕ) → Each es → headOf rest ≡ Stops (endOf rest)
+    → play s (tapeOf es ++ rest) ≡ record { state = actedAll s es; used = length (tapeOf es); stop = endOf rest }
+unfolding actedAll
+play-entries s [] rest z h = play-stops s rest (endOf rest) h
+play-entries s (e ∷ es) rest z h =
+    ap (play s) (append-assoc (bytesOf e) (tapeOf es) rest)
+    ∙ play-entry s e (tapeOf es ++ rest) (z .0)
+    ∙ ap (further (length (bytesOf e))) (play-entries (acted s e) es rest (z .1) h)
+    ∙ rw (length-append (bytesOf e) (tapeOf es))
+
+-- the entries' effects in order; the entries' bytes used; and the rest says why it stopped
+pub play-split : (s : State) (b : List ℕ) (es : List Entry) (rest : List ℕ) → Bytes b → Tape b es rest
+    → play s b ≡ record { state = actedAll s es; used = length (tapeOf es); stop = endOf rest }
+play-split s b es rest h t =
+    let g : Bytes (tapeOf es ++ rest) = λ i. rw (t .bytes) at (h i) in
+    ap (play s) (t .bytes) ∙ play-entries s es rest (t .each) (ends-stops rest (bytes-behind (tapeOf es) rest g) (t .ends))

@@ -3,7 +3,7 @@
 use Prim.Native.Nat.{ℕ, suc, _+_, _<_, _^_}
 use mathlib.Core.Path.{_≡_}
 use mathlib.Core.List.{List, [], _∷_, _++_}
-use mathlib.Core.Bool.{cond}
+use mathlib.Core.Bool.{Bool, false, cond, _||_}
 use lib.Dec.{eqb, leb}
 use lib.ListN.{length, drop, getD}
 use Rattle.octets.specs.Run.{part, Bytes}
@@ -22,6 +22,28 @@ messageLength k = cond (eqb k 83) 6 (cond (eqb k 84) 45 (cond (eqb k 88) 45 (con
 -- L: symbol 8, close 4; S T X C J: number 4, and the message; 0 where the byte is no kind
 unfoldable pub bodyLength : ℕ → ℕ
 bodyLength k = cond (eqb k 76) (8 + 4) (cond (eqb (messageLength k) 0) 0 (4 + messageLength k))
+
+-- the six kinds, each with the length of its entries
+pub record Kind : Type 0 where
+  pub letter : ℕ
+  pub size : ℕ
+
+abbrev pub kinds : List Kind
+kinds =
+    -- L: kind, symbol, close
+    record { letter = 76; size = 1 + 8 + 4 }
+    -- S T X C J: kind, number, message
+    ∷ record { letter = 83; size = 1 + 4 + 6 }
+    ∷ record { letter = 84; size = 1 + 4 + 45 }
+    ∷ record { letter = 88; size = 1 + 4 + 45 }
+    ∷ record { letter = 67; size = 1 + 4 + 67 }
+    ∷ record { letter = 74; size = 1 + 4 + 34 }
+    ∷ []
+
+-- the byte is the letter of one of these kinds
+abbrev pub isKind : ℕ → List Kind → Bool
+isKind k [] = false
+isKind k (r ∷ rs) = eqb k (r .letter) || isKind k rs
 
 -- ---- entries
 
