@@ -11,12 +11,12 @@ use lib.Dec.{eqb, leb}
 use lib.ListN.{length, take, drop, length-append, length-drop}
 use lib.Seq.{drop-drop, take-append-le, drop-append-le}
 use Rattle.tape.specs.Entries.{bodyLength, headOf, entryOf}
-use Rattle.tape.specs.Playing.{State, acted, Play, stopped, further, play, Held, begun, held, feed, feedAll, joined}
+use Rattle.tape.specs.Playing.{State, acted, Play, further, play, Held, begun, held, feed, feedAll, joined}
 use Rattle.tape.specs.declared.Stop.{Stop}
 use Rattle.tape.specs.declared.Stop.the-variants.{Ended, NoKind, CutShort}
 use Rattle.tape.specs.declared.entries.Head.{Head}
 use Rattle.tape.specs.declared.entries.Head.the-variants.{Whole, Stops}
-use Rattle.tape.proofs.Heads.{never, standing, stands, standing-within, body-some}
+use Rattle.tape.proofs.Heads.{standing, stands, standing-within, body-some}
 use Rattle.tape.proofs.Plays.{shorter, play-stops, play-whole, further-none, further-further}
 
 -- ---- where a play stops

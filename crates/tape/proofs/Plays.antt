@@ -1,8 +1,8 @@
 -- A play goes on with what stands at the head, whatever number of entries it is allowed, if that is enough; the turns of the code.
 -- Assumes nothing.
 use mathlib.Core.Path.{_≡_, refl, ap, sym, _∙_}
-use mathlib.Core.List.{List, [], _∷_, _++_}
-use Prim.Native.Nat.{ℕ, zero, suc, _+_, _-_, _≤_, _<_}
+use mathlib.Core.List.{List, [], _∷_}
+use Prim.Native.Nat.{ℕ, zero, suc, _+_, _-_, _≤_}
 use native.Mathlib.Nat.{add-zero, zero-add, add-assoc}
 use native.Mathlib.Omega.{arith}
 use borrow.Author.Tests.{eq-eqb, ne-eqb}
@@ -13,8 +13,8 @@ use Rattle.octets.specs.Number.{be}
 use Rattle.book.specs.declared.counters.Counters.{Counters}
 use Rattle.book.specs.declared.Said.{Said}
 use Rattle.book.specs.Calls.{listSaid, listRows, deliverSaid, deliverRows, deliverLines}
-use Rattle.tape.specs.Entries.{Entry, listingOf, messageOf, headOf, entryOf}
-use Rattle.tape.specs.Playing.{State, stateOf, acted, Play, stopped, further, onHead, playSome, play, played, playRows, playLines}
+use Rattle.tape.specs.Entries.{listingOf, messageOf, headOf, entryOf}
+use Rattle.tape.specs.Playing.{State, stateOf, acted, Play, stopped, further, playSome, play, played, playRows, playLines}
 use Rattle.tape.specs.declared.Stop.{Stop}
 use Rattle.tape.specs.declared.Stop.the-variants.{Ended}
 use Rattle.tape.specs.declared.entries.Head.{Head}

@@ -1,26 +1,25 @@
 -- Each run of bytes is entries and a rest in exactly one way, and the play of it is what the entries do, in order.
 -- Assumes nothing.
 use mathlib.Core.Path.{_≡_, refl, ap, sym, _∙_}
-use mathlib.Core.Bool.{Bool, true, false, cond}
+use mathlib.Core.Bool.{Bool, true, false}
 use mathlib.Core.List.{List, [], _∷_, _++_, append-assoc}
 use Prim.Native.Nat.{ℕ, zero, suc, _+_, _≤_, _<_, _^_}
-use native.Mathlib.Nat.{add-zero}
 use native.Mathlib.Omega.{arith}
-use borrow.Author.Tests.{eqb-true, eqb-false, eq-eqb, ne-eqb}
+use borrow.Author.Tests.{eqb-true, eqb-false, ne-eqb}
 use lib.Dec.{eqb, leb, lit<}
-use lib.ListN.{length, take, drop, getD, length-append, length-drop, take-append-drop}
+use lib.ListN.{length, take, drop, length-append, length-drop, take-append-drop}
 use lib.Seq.{getD-drop, getD-append-add, take-append-seam, drop-append-seam, length-take-le}
 use Rattle.octets.specs.Run.{part, Bytes}
 use Rattle.octets.specs.Number.{be, digits}
 use Rattle.octets.proofs.Laws.{part-length, be-below, digits-length}
 use Rattle.octets.proofs.Trips.{be-digits, digits-part, join, walk, here, last}
 use Rattle.tape.specs.Entries.{messageLength, bodyLength, Entry, Listing, Message, bytesOf, Sized, headOf, listingOf, messageOf, entryOf, Each, tapeOf, Tape, endOf}
-use Rattle.tape.specs.Playing.{State, acted, actedAll, Play, stopped, further, play}
+use Rattle.tape.specs.Playing.{State, acted, actedAll, further, play}
 use Rattle.tape.specs.declared.Stop.{Stop}
 use Rattle.tape.specs.declared.Stop.the-variants.{Ended, NoKind, CutShort}
 use Rattle.tape.specs.declared.entries.Head.{Head}
 use Rattle.tape.specs.declared.entries.Head.the-variants.{Whole, Stops}
-use Rattle.tape.proofs.Heads.{never, Standing, standing, stands, standing-within}
+use Rattle.tape.proofs.Heads.{never, standing, stands}
 use Rattle.tape.proofs.Plays.{shorter, play-stops, play-whole}
 
 -- ---- a kind of message is no listing
@@ -267,7 +266,7 @@ ends-stops b h n = go (headOf b) refl
         absurd (n (entryOf (take k b)) (drop k b) (f .1) (sym (ap (λ (x : List ℕ). x ++ drop k b) (f .0) ∙ take-append-drop k b)))
 
 -- an entry, and then what follows
-play-entry : (s : State) (e : Entry) (more : List ℕ) → Sized e → play s (bytesOf e ++ more) ≡ further (length (bytesOf e)) (play (acted s e) more)
+pub play-entry : (s : State) (e : Entry) (more : List ℕ) → Sized e → play s (bytesOf e ++ more) ≡ further (length (bytesOf e)) (play (acted s e) more)
 play-entry s e more z =
     play-whole s (bytesOf e ++ more) (length (bytesOf e)) (entry-head e more z)
     ∙ rw (take-append-seam (bytesOf e) more, drop-append-seam (bytesOf e) more, entry-again e z)
