@@ -11,7 +11,7 @@ use lib.Dec.{eqb, leb}
 use lib.ListN.{length, take, drop, length-append, length-drop}
 use lib.Seq.{drop-drop, take-append-le, drop-append-le}
 use Rattle.tape.specs.Entries.{bodyLength, headOf, entryOf}
-use Rattle.tape.specs.Playing.{State, acted, Play, further, play, Held, begun, held, feed, feedAll, joined}
+use Rattle.tape.specs.Playing.{State, acted, Play, further, play, played, Held, begun, held, feed, feedAll, joined}
 use Rattle.tape.specs.declared.Stop.{Stop}
 use Rattle.tape.specs.declared.Stop.the-variants.{Ended, NoKind, CutShort}
 use Rattle.tape.specs.declared.entries.Head.{Head}
@@ -85,12 +85,21 @@ ended-head (k ∷ s) e = go (eqb (bodyLength k) 0) refl (leb (bodyLength k) (len
     go false t true v = let f : Whole (suc (bodyLength k)) ≡ Stops Ended = rw (t, v) at e in let z : _≡_ {A = ℕ} 0 1 = cc in absurd (omega arith)
     go false t false v = let f : Stops CutShort ≡ Stops Ended = rw (t, v) at e in let z : _≡_ {A = ℕ} 0 1 = cc in absurd (omega arith)
 
--- so 71 bytes are room enough for what is kept between two pieces
 pub left-short : (s : State) (b : List ℕ) → play s b .stop ≡ CutShort → length (drop (play s b .used) b) < 72
 left-short s b e = short-head (drop (play s b .used) b) (play-rest s b .why ∙ ap Stops e)
 
 pub left-none : (s : State) (b : List ℕ) → play s b .stop ≡ Ended → drop (play s b .used) b ≡ []
 left-none s b e = ended-head (drop (play s b .used) b) (play-rest s b .why ∙ ap Stops e)
+
+-- so 71 bytes are room enough for what is kept between two pieces; of what a call hands back
+pub kept-short : (s : State) (b : List ℕ) → (played s b .stop ≡ NoKind → ⊥) → (played s b .used ≤ length b) × (length b - played s b .used < 72)
+unfolding played
+kept-short s b h = (used-within s b, go (play s b .stop) refl)
+  where
+    go : (w : Stop) → play s b .stop ≡ w → length b - play s b .used < 72
+    go Ended e = omega (arith, length-drop (play s b .used) b, ap length (left-none s b e))
+    go NoKind e = absurd (h e)
+    go CutShort e = omega (arith, length-drop (play s b .used) b, left-short s b e)
 
 -- ---- a tape and what follows it
 

@@ -1,4 +1,4 @@
--- The tape of the day W, and what is left of a play when only its numbers are read.
+-- The tape of the day W, entry by entry, and its play on a fresh book.
 -- Assumes nothing.
 use Prim.Native.Nat.{ℕ, _*_}
 use mathlib.Core.List.{List, [], _∷_, _++_}

@@ -58,8 +58,7 @@ fn list_entry(c: Counters, rows: &mut [u8], lines: &[u8], bytes: &[u8]) -> Count
     fill(&mut symbol, bytes, 1);
     let close = number4(bytes, 9);
     let said = book::list(c, rows, lines, symbol, close);
-    let after = said.counters;
-    after
+    said.counters
 }
 
 // Delivers the message of an entry as it lies, under its number.
@@ -71,8 +70,7 @@ fn deliver_entry(c: Counters, rows: &mut [u8], lines: &mut [u8], bytes: &[u8]) -
 {
     let number = number4(bytes, 1) as u64;
     let said = book::deliver(c, rows, lines, number, &bytes[5..]);
-    let after = said.counters;
-    after
+    said.counters
 }
 
 // Plays one entry; these are all of its bytes.
