@@ -91,10 +91,16 @@ left-short s b e = short-head (drop (play s b .used) b) (play-rest s b .why ∙ 
 pub left-none : (s : State) (b : List ℕ) → play s b .stop ≡ Ended → drop (play s b .used) b ≡ []
 left-none s b e = ended-head (drop (play s b .used) b) (play-rest s b .why ∙ ap Stops e)
 
--- so 71 bytes are room enough for what is kept between two pieces; of what a call hands back
-pub kept-short : (s : State) (b : List ℕ) → (played s b .stop ≡ NoKind → ⊥) → (played s b .used ≤ length b) × (length b - played s b .used < 72)
+-- ---- the same of what a call hands back
+
+pub played-within : (s : State) (b : List ℕ) → played s b .used ≤ length b
 unfolding played
-kept-short s b h = (used-within s b, go (play s b .stop) refl)
+played-within s b = used-within s b
+
+-- 71 bytes are room enough for what is kept between two pieces
+pub kept-short : (s : State) (b : List ℕ) → (played s b .stop ≡ NoKind → ⊥) → length b - played s b .used < 72
+unfolding played
+kept-short s b h = go (play s b .stop) refl
   where
     go : (w : Stop) → play s b .stop ≡ w → length b - play s b .used < 72
     go Ended e = omega (arith, length-drop (play s b .used) b, ap length (left-none s b e))
