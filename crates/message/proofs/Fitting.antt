@@ -1,10 +1,12 @@
 -- A record that was read fits its types. That whatever `read` is lent is bytes, and whatever record `write` is given fits
 -- its types, is said beside their proofs (`entered` in `read/Proof` and `write/Proof`).
 -- Assumes nothing.
-use mathlib.Core.Path.{_≡_, refl, ap, sym, subst, _∙_}
+use mathlib.Core.Path.{_≡_, refl, ap, sym, subst}
+use mathlib.Core.Bool.{Bool, true, false, cond}
 use mathlib.Core.List.{List}
 use Prim.Native.Nat.{ℕ, _+_, _^_, _<_}
-use lib.Dec.{lit<}
+use lib.Dec.{eqb, lit<}
+use lib.ListN.{getD}
 use Rattle.octets.specs.Run.{part, Bytes}
 use Rattle.octets.specs.Number.{be}
 use Rattle.octets.proofs.Laws.{part-length, be-below}
@@ -12,9 +14,8 @@ use Rattle.message.specs.declared.Sale.{Sale}
 use Rattle.message.specs.declared.Record.{Record}
 use Rattle.message.specs.declared.Reading.{Reading}
 use Rattle.message.specs.Fits.{SaleFits, RecordFits}
-use Rattle.message.specs.Layouts.{MessageType, S, T, X, C, J}
-use Rattle.message.specs.Reading.{noSale, noRecord, saleAt, fieldsS, fieldsTrade, fieldsJ, readOf}
-use Rattle.message.proofs.Exactly.{fieldsAs, fields-as, shaped-is, Said, unshaped, unkept, obeyed, said}
+use Rattle.message.specs.Reading.{noSale, noRecord, saleAt, fieldsS, fieldsTrade, fieldsT, fieldsC, fieldsJ, fieldsOf, readOf}
+use Rattle.message.proofs.Said.{Said, unshaped, unkept, obeyed, said}
 
 number-fits : (m : List ℕ) (at : ℕ) → Bytes m → be (part m at 4) < 2 ^ 32
 number-fits m at b = be-below m at 4 b
@@ -59,9 +60,9 @@ trade-fits m n v b f h =
       consolidated = h;
     }
 
-fields-fit : (m : List ℕ) → Bytes m → (t : MessageType) → RecordFits (fieldsAs m t)
-unfolding fieldsS fieldsJ
-fields-fit m b S =
+fields-s-fit : (m : List ℕ) → Bytes m → RecordFits (fieldsS m)
+unfolding fieldsS
+fields-s-fit m b =
     record {
       time = number-fits m 0 b;
       symbol = refl;
@@ -72,10 +73,16 @@ fields-fit m b S =
       close = lit< tt;
       consolidated = lit< tt;
     }
-fields-fit m b T = trade-fits m noSale _ b no-sale-fits (be-below m 37 8 b)
-fields-fit m b X = trade-fits m noSale _ b no-sale-fits (be-below m 37 8 b)
-fields-fit m b C = trade-fits m (saleAt m 37) _ b (sale-fits m 37 b) (be-below m 59 8 b)
-fields-fit m b J =
+
+fields-t-fit : (m : List ℕ) → Bytes m → RecordFits (fieldsT m)
+fields-t-fit m b = trade-fits m noSale _ b no-sale-fits (be-below m 37 8 b)
+
+fields-c-fit : (m : List ℕ) → Bytes m → RecordFits (fieldsC m)
+fields-c-fit m b = trade-fits m (saleAt m 37) _ b (sale-fits m 37 b) (be-below m 59 8 b)
+
+fields-j-fit : (m : List ℕ) → Bytes m → RecordFits (fieldsJ m)
+unfolding fieldsJ
+fields-j-fit m b =
     record {
       time = number-fits m 0 b;
       symbol = part-length m 5 8;
@@ -87,6 +94,18 @@ fields-fit m b J =
       consolidated = be-below m 26 8 b;
     }
 
+-- whichever of two is chosen
+either : (t : Bool) (r o : Record) → RecordFits r → RecordFits o → RecordFits (cond t r o)
+either true r o f g = f
+either false r o f g = g
+
+fields-fit : (m : List ℕ) → Bytes m → RecordFits (fieldsOf m)
+unfolding fieldsOf
+fields-fit m b =
+    either (eqb (getD m 4 0) 83) (fieldsS m) _ (fields-s-fit m b)
+    (either (eqb (getD m 4 0) 67) (fieldsC m) _ (fields-c-fit m b)
+    (either (eqb (getD m 4 0) 74) (fieldsJ m) (fieldsT m) (fields-j-fit m b) (fields-t-fit m b)))
+
 -- a record that was read, or was handed back for a refusal, fits its types
 pub read-fits : (m : List ℕ) → Bytes m → RecordFits (readOf m .found)
 read-fits m b = go (said m)
@@ -97,6 +116,4 @@ read-fits m b = go (said m)
     go : Said m → RecordFits (readOf m .found)
     go (unshaped e q) = as-found noRecord (ap (λ (a : Reading). a .found) q) no-record-fits
     go (unkept e f q) = as-found noRecord (ap (λ (a : Reading). a .found) q) no-record-fits
-    go (obeyed e l q) =
-        let s = shaped-is m e in
-        as-found (fieldsAs m (s .type)) (ap (λ (a : Reading). a .found) q ∙ fields-as m (s .type) (s .typed)) (fields-fit m b (s .type))
+    go (obeyed e l q) = as-found (fieldsOf m) (ap (λ (a : Reading). a .found) q) (fields-fit m b)

@@ -1,10 +1,5 @@
-pub mod Letters
 pub mod Stores
 pub mod Written
-pub mod Lawful
-pub mod Exactly
-pub mod Trips
-pub mod Demand2
-pub mod Samples
+pub mod Said
 pub mod Fitting
 pub mod Promise

@@ -1,10 +1,12 @@
 -- The stores of each writer, one after the other, are one run: the bytes of that type; and how long each run is.
 -- Assumes nothing.
-use mathlib.Core.Path.{_≡_, ap, sym, _∙_}
-use mathlib.Core.Bool.{true}
+use mathlib.Core.Path.{_≡_, refl, ap, sym, _∙_}
+use mathlib.Core.Bool.{Bool, true, false}
 use mathlib.Core.List.{List, [], _∷_, _++_}
 use Prim.Native.Nat.{ℕ, _+_}
 use native.Mathlib.Omega.{arith}
+use borrow.Author.Tests.{eqb-true}
+use lib.Dec.{eqb}
 use lib.ListN.{length, set, length-append}
 use lib.Seq.{sets}
 use Rattle.octets.specs.Number.{digits}
@@ -14,8 +16,6 @@ use Rattle.message.specs.declared.Record.{Record}
 use Rattle.message.specs.Fits.{RecordFits}
 use Rattle.message.specs.Reading.{lengthBy, lawfulOf}
 use Rattle.message.specs.Writing.{saleBytes, headBytes, priceBytes, bytesS, bytesT, bytesC, bytesJ, bytesOf}
-use Rattle.message.specs.Layouts.{MessageType, S, T, X, C, J, letterOf, lengthOf}
-use Rattle.message.proofs.Letters.{byType, chosen-by, long-letter, lawful-typed}
 
 -- ---- lengths
 
@@ -118,14 +118,7 @@ module _ (l : List ℕ) (r : Record) where
       ∙ sets-then (r .symbol) (r .class ∷ (priceBytes r ++ d)) b 5 13 (rw e)
       ∙ sets-then t (r .letter ∷ (r .symbol ++ (r .class ∷ (priceBytes r ++ d)))) l 0 4 (omega (arith, digits-length 4 (r .time)))
 
--- ---- what is written is the type's, and so is its length
-
-abbrev pub bytesAs : Record → MessageType → List ℕ
-bytesAs r k = byType k (bytesS r) (bytesT r) (bytesC r) (bytesJ r)
-
-pub bytes-as : (r : Record) (k : MessageType) → r .letter ≡ letterOf k → bytesOf r ≡ bytesAs r k
-unfolding bytesOf
-bytes-as r k e = chosen-by (r .letter) k e (bytesS r) (bytesT r) (bytesC r) (bytesJ r)
+-- ---- how long what is written is, by the letter
 
 module _ (r : Record) (g : Long r) where
   s-length : length (bytesS r) ≡ 6
@@ -145,13 +138,33 @@ module _ (r : Record) (g : Long r) where
   j-length = simp (length-append, digits-length, g .symbol, prices-length r)
 
   pub bytes-length : lawfulOf r ≡ true → length (bytesOf r) ≡ lengthBy (r .letter)
-  bytes-length o =
-      let k = lawful-typed r o in
-      ap length (bytes-as r (k .0) (k .1)) ∙ go (k .0) ∙ sym (ap lengthBy (k .1) ∙ long-letter (k .0))
+  unfolding bytesOf lengthBy lawfulOf
+  bytes-length o = at-s (eqb (r .letter) 83) refl
     where
-      go : (k : MessageType) → length (bytesAs r k) ≡ lengthOf k
-      go S = s-length
-      go T = t-length
-      go X = t-length
-      go C = c-length
-      go J = j-length
+      long : (k n : ℕ) (xs : List ℕ) → eqb (r .letter) k ≡ true → bytesOf r ≡ xs → length xs ≡ n → lengthBy k ≡ n → length (bytesOf r) ≡ lengthBy (r .letter)
+      long k n xs t b l e = ap length b ∙ l ∙ sym (ap lengthBy (eqb-true (r .letter) k t) ∙ e)
+
+      at-x : (b : Bool) → eqb (r .letter) 83 ≡ false → eqb (r .letter) 67 ≡ false → eqb (r .letter) 74 ≡ false → eqb (r .letter) 84 ≡ false
+          → eqb (r .letter) 88 ≡ b → length (bytesOf r) ≡ lengthBy (r .letter)
+      at-x true s c j t e = long 88 45 (bytesT r) e (simp (s, c, j)) t-length refl
+      at-x false s c j t e =
+          let f : false ≡ true = simp (s, c, j, t, e) at o in
+          let z : _≡_ {A = ℕ} 0 1 = cc in
+          absurd (omega arith)
+
+      at-t : (b : Bool) → eqb (r .letter) 83 ≡ false → eqb (r .letter) 67 ≡ false → eqb (r .letter) 74 ≡ false → eqb (r .letter) 84 ≡ b
+          → length (bytesOf r) ≡ lengthBy (r .letter)
+      at-t true s c j e = long 84 45 (bytesT r) e (simp (s, c, j)) t-length refl
+      at-t false s c j e = at-x (eqb (r .letter) 88) s c j e refl
+
+      at-j : (b : Bool) → eqb (r .letter) 83 ≡ false → eqb (r .letter) 67 ≡ false → eqb (r .letter) 74 ≡ b → length (bytesOf r) ≡ lengthBy (r .letter)
+      at-j true s c e = long 74 34 (bytesJ r) e (simp (s, c, e)) j-length refl
+      at-j false s c e = at-t (eqb (r .letter) 84) s c e refl
+
+      at-c : (b : Bool) → eqb (r .letter) 83 ≡ false → eqb (r .letter) 67 ≡ b → length (bytesOf r) ≡ lengthBy (r .letter)
+      at-c true s e = long 67 67 (bytesC r) e (simp (s, e)) c-length refl
+      at-c false s e = at-j (eqb (r .letter) 74) s e refl
+
+      at-s : (b : Bool) → eqb (r .letter) 83 ≡ b → length (bytesOf r) ≡ lengthBy (r .letter)
+      at-s true e = long 83 6 (bytesS r) e (simp e) s-length refl
+      at-s false e = at-c (eqb (r .letter) 67) e refl

@@ -1,6 +1,5 @@
 pub mod Answers
 pub mod Rules
-pub mod Layouts
 pub mod Fits
 pub mod Reading
 pub mod Writing

@@ -1,5 +1,5 @@
 -- The reader's working definitions: a record for each type, the rules over a record, what reading says.
--- What they amount to is said by `Layouts`; that they do is proved in `proofs/Demand2`.
+-- What they amount to is said by the crate `layouts`, above this one, and proved there.
 -- Assumes nothing.
 use Prim.Native.Nat.{ℕ, _+_}
 use mathlib.Core.List.{List, [], _∷_}

@@ -3,7 +3,7 @@
 -- Assumes nothing.
 use Prim.Native.Nat.{ℕ, suc, _≤_, _<_, min}
 use mathlib.Core.Path.{_≡_, refl, ap, sym, _∙_}
-use mathlib.Core.Logic.{_↔_, _⊎_, ⊎-elim}
+use mathlib.Core.Logic.{_↔_, _⊎_, inl, inr, ⊎-elim}
 use mathlib.Core.List.{List, [], _∷_, _++_, List·Memᴰ, List·Memᴰ·head, List·Memᴰ·tail, List·Memᴰ·not-nil, List·Memᴰ·cases-cons}
 use mathlib.Core.Bool.{Bool, true, false, cond, not, _&&_, _||_, true≢false}
 use native.Mathlib.Omega.{arith}
@@ -15,7 +15,7 @@ use Rattle.message.specs.Answers.{numberOf, answerOf}
 use Rattle.message.specs.Reading.{readOf}
 use Rattle.message.specs.declared.Record.{Record}
 use Rattle.message.specs.declared.Reading.{Reading}
-use Rattle.message.proofs.Demand2.{read-exactly}
+use Rattle.message.proofs.Said.{Said, unshaped, unkept, obeyed, said}
 use Rattle.message.proofs.Promise.{one-number-each}
 use Rattle.store.specs.declared.Found.{Found}
 use Rattle.store.specs.declared.Found.the-variants.{Nothing, At}
@@ -187,7 +187,15 @@ abbrev pub Plain : Reading → Type 0
 Plain q = (numberOf (q .answer) ≡ 0) ⊎ ((numberOf (q .answer) ≡ 4) ⊎ (numberOf (q .answer) ≡ 5))
 
 pub read-plain : (m : List ℕ) → Plain (readOf m)
-read-plain m = read-exactly m .listed
+read-plain m = go (said m)
+  where
+    number : Reading → ℕ
+    number q = numberOf (q .answer)
+
+    go : Said m → Plain (readOf m)
+    go (unshaped e q) = inr (inl (ap number q))
+    go (unkept e f q) = inr (inr (ap number q))
+    go (obeyed e l q) = inl (ap number q)
 
 -- an event names no line and makes none
 event-names : (r : Record) → isEvent r ≡ true → namesOld r ≡ false

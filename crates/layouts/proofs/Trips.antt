@@ -14,14 +14,24 @@ use Rattle.octets.specs.Number.{be, digits}
 use Rattle.octets.specs.Text.{all}
 use Rattle.octets.proofs.Laws.{digits-length}
 use Rattle.octets.proofs.Trips.{be-digits, digits-part, alone, link, join, whole, walk, step, here, last, first, zeros}
 use Rattle.message.specs.declared.Sale.{Sale}
 use Rattle.message.specs.declared.Record.{Record}
 use Rattle.message.specs.Fits.{SaleFits, RecordFits}
-use Rattle.message.specs.Layouts.{MessageType, S, T, X, C, J, letterOf, lengthOf, layoutOf, lacked, holds, isZero, Each}
+use Rattle.layouts.specs.Layouts.{MessageType, S, T, X, C, J, letterOf, lengthOf, layoutOf, lacked, holds, isZero, Each}
 use Rattle.message.specs.Reading.{noSale, saleAt, fieldsS, fieldsTrade, fieldsT, fieldsC, fieldsJ, fieldsOf}
 use Rattle.message.specs.Writing.{saleBytes, headBytes, priceBytes, bytesS, bytesT, bytesC, bytesJ, bytesOf}
-use Rattle.message.proofs.Stores.{sale-length, head-length, bytes-as, bytesAs}
-use Rattle.message.proofs.Exactly.{fieldsAs, fields-as, letter-of}
+use Rattle.message.proofs.Stores.{sale-length, head-length}
+use Rattle.layouts.proofs.Letters.{byType, chosen-by}
+use Rattle.layouts.proofs.Exactly.{fieldsAs, fields-as, letter-of}
+
+-- ---- what is written is the type's
+
+abbrev pub bytesAs : Record → MessageType → List ℕ
+bytesAs r k = byType k (bytesS r) (bytesT r) (bytesC r) (bytesJ r)
+
+pub bytes-as : (r : Record) (k : MessageType) → r .letter ≡ letterOf k → bytesOf r ≡ bytesAs r k
+unfolding bytesOf
+bytes-as r k e = chosen-by (r .letter) k e (bytesS r) (bytesT r) (bytesC r) (bytesJ r)
 
 -- ---- read, then written
 

@@ -8,11 +8,11 @@ use native.Mathlib.Omega.{arith}
 use borrow.Author.Tests.{eqb-true, eqb-false, ne-eqb, eq-eqb}
 use lib.Dec.{eqb}
 use lib.ListN.{length, getD}
 use Rattle.message.specs.declared.Record.{Record}
-use Rattle.message.specs.Reading.{lengthBy, saleAt, fieldsS, fieldsTrade, fieldsT, fieldsC, fieldsJ, fieldsOf, lawfulOf, misshapen, refusedOf, acceptedOf, judgedOf, readOf}
-use Rattle.message.specs.Layouts.{Entry, MessageType, S, T, X, C, J, letterOf, lengthOf, layoutOf, stands, holds, fieldOf, keeps, isZero, Each, lacked, Shaped, Obeys}
-use Rattle.message.proofs.Letters.{Which, typed, none, which, byType, chosen-by, long-letter, long-some, typed-by}
-use Rattle.message.proofs.Lawful.{all-each, lawful-is, is-lawful}
+use Rattle.message.specs.Reading.{lengthBy, saleAt, fieldsS, fieldsTrade, fieldsT, fieldsC, fieldsJ, fieldsOf, lawfulOf, misshapen}
+use Rattle.layouts.specs.Layouts.{Entry, MessageType, S, T, X, C, J, letterOf, lengthOf, layoutOf, stands, holds, fieldOf, keeps, isZero, Each, lacked, Shaped, Obeys}
+use Rattle.layouts.proofs.Letters.{Which, typed, none, which, byType, chosen-by, long-letter, long-some, typed-by}
+use Rattle.layouts.proofs.Lawful.{all-each, lawful-is, is-lawful}
 
 module _ (m : List ℕ) where
   -- ---- the record of each type
@@ -118,22 +118,3 @@ module _ (m : List ℕ) where
       let t = o .shape .typed in
       is-lawful (fieldsOf m)
       (record { type = k; typed = letter-of ∙ t; kept = each-holds (fieldsOf m) (layoutOf k) (stood k t) (o .kept); empty = lacks k t })
-
-  -- ---- the three answers of the reader
-
-  pub data Said : Type 0 where
-    unshaped : misshapen m ≡ true → readOf m ≡ refusedOf 4 → Said
-    unkept : misshapen m ≡ false → lawfulOf (fieldsOf m) ≡ false → readOf m ≡ refusedOf 5 → Said
-    obeyed : misshapen m ≡ false → lawfulOf (fieldsOf m) ≡ true → readOf m ≡ acceptedOf (fieldsOf m) → Said
-
-  pub said : Said
-  unfolding readOf judgedOf
-  said = shape (misshapen m) refl
-    where
-      judge : misshapen m ≡ false → (b : Bool) → lawfulOf (fieldsOf m) ≡ b → Said
-      judge e true o = obeyed e o (simp (e, o))
-      judge e false o = unkept e o (simp (e, o))
-
-      shape : (b : Bool) → misshapen m ≡ b → Said
-      shape true e = unshaped e (simp e)
-      shape false e = judge e (lawfulOf (fieldsOf m)) refl

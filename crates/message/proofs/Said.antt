@@ -1,0 +1,25 @@
+-- The three answers of the reader, by its two tests: the shape of the message, and the rules of its record.
+-- Assumes nothing.
+use mathlib.Core.Path.{_≡_, refl}
+use mathlib.Core.Bool.{Bool, true, false}
+use mathlib.Core.List.{List}
+use Prim.Native.Nat.{ℕ}
+use Rattle.message.specs.Reading.{fieldsOf, lawfulOf, misshapen, refusedOf, acceptedOf, judgedOf, readOf}
+
+module _ (m : List ℕ) where
+  pub data Said : Type 0 where
+    unshaped : misshapen m ≡ true → readOf m ≡ refusedOf 4 → Said
+    unkept : misshapen m ≡ false → lawfulOf (fieldsOf m) ≡ false → readOf m ≡ refusedOf 5 → Said
+    obeyed : misshapen m ≡ false → lawfulOf (fieldsOf m) ≡ true → readOf m ≡ acceptedOf (fieldsOf m) → Said
+
+  pub said : Said
+  unfolding readOf judgedOf
+  said = shape (misshapen m) refl
+    where
+      judge : misshapen m ≡ false → (b : Bool) → lawfulOf (fieldsOf m) ≡ b → Said
+      judge e true o = obeyed e o (simp (e, o))
+      judge e false o = unkept e o (simp (e, o))
+
+      shape : (b : Bool) → misshapen m ≡ b → Said
+      shape true e = unshaped e (simp e)
+      shape false e = judge e (lawfulOf (fieldsOf m)) refl
