@@ -12,7 +12,7 @@ use Rattle.message.specs.declared.Record.{Record}
 use Rattle.message.specs.Reading.{lengthBy, saleAt, fieldsS, fieldsTrade, fieldsT, fieldsC, fieldsJ, fieldsOf, lawfulOf, misshapen}
 use Rattle.layouts.specs.Layouts.{Entry, MessageType, S, T, X, C, J, letterOf, lengthOf, layoutOf, stands, holds, fieldOf, keeps, isZero, Each, lacked, Shaped, Obeys}
 use Rattle.layouts.proofs.Letters.{Which, typed, none, which, byType, chosen-by, long-letter, long-some, typed-by}
-use Rattle.layouts.proofs.Lawful.{all-each, lawful-is, is-lawful}
+use Rattle.layouts.proofs.Lawful.{lawful-is, is-lawful}
 
 module _ (m : List ℕ) where
   -- ---- the record of each type
@@ -50,11 +50,11 @@ module _ (m : List ℕ) where
 
   lacks-as : (k : MessageType) → Each (λ f. isZero (holds f (fieldsAs k)) ≡ true) (lacked k)
   unfolding layoutOf lacked holds isZero fieldsS fieldsTrade fieldsJ
-  lacks-as S = all-each (λ f. isZero (holds f (fieldsS m))) (lacked S) refl
-  lacks-as T = all-each (λ f. isZero (holds f (fieldsT m))) (lacked T) refl
-  lacks-as X = all-each (λ f. isZero (holds f (fieldsT m))) (lacked X) refl
-  lacks-as C = all-each (λ f. isZero (holds f (fieldsC m))) (lacked C) refl
-  lacks-as J = all-each (λ f. isZero (holds f (fieldsJ m))) (lacked J) refl
+  lacks-as S = (refl, (refl, (refl, (refl, (refl, (refl, (refl, (refl, (refl, (refl, (refl, (refl, (refl, (refl, (refl, tt)))))))))))))))
+  lacks-as T = (refl, (refl, (refl, (refl, (refl, (refl, (refl, (refl, tt))))))))
+  lacks-as X = (refl, (refl, (refl, (refl, (refl, (refl, (refl, (refl, tt))))))))
+  lacks-as C = (refl, (refl, (refl, (refl, tt))))
+  lacks-as J = (refl, (refl, (refl, (refl, (refl, (refl, (refl, (refl, (refl, (refl, tt))))))))))
 
   module _ (k : MessageType) (e : getD m 4 0 ≡ letterOf k) where
     pub stood : Each (λ e. holds (fieldOf e) (fieldsOf m) ≡ stands e m) (layoutOf k)
