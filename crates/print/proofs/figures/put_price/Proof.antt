@@ -1,0 +1,76 @@
+-- `print::figures::put_price` meets its contract.
+-- Assumes nothing.
+use mathlib.Core.Path.{ap, sym}
+use mathlib.Core.List.{_∷_}
+use Prim.Native.Nat.{_+_}
+use native.Mathlib.Omega.{arith}
+use Rattle.walk.specs.declared.Price.{Price}
+use Rattle.decimal.proofs.Amount.{amount-short}
+use Rattle.print.specs.Texts.{priceText}
+use Rattle.print.proofs.Laws.{byte, then, retold, figure}
+use borrow.Author.Needs.{needs}
+use Rattle.print.proofs.figures.put_price.Statement.{statement}
+use Rattle.print.proofs.figures.put_price.Tie as tie
+
+enum-told : tie.Need-enum-told
+enum-told c = search needs
+
+put-absent-requires : tie.Need-put-absent-requires
+put-absent-requires c κs = search needs
+
+enum-known-p : tie.Need-enum-known-p
+enum-known-p c = search needs
+
+put-byte-requires : tie.Need-put-byte-requires
+put-byte-requires c κs = search needs
+
+add-result : tie.Need-add-result
+add-result c = search needs
+
+add-put-amount : tie.Need-add-put-amount
+add-put-amount c = search needs
+
+cast-put-amount : tie.Need-cast-put-amount
+cast-put-amount c = search needs
+
+put-amount-requires : tie.Need-put-amount-requires
+put-amount-requires c κs = search needs
+
+add-result-2 : tie.Need-add-result-2
+add-result-2 c =
+    let h = amount-short (c .before .before .before .before .before .before .before .before .before .p .given .0 .0) (omega (arith, c .before .before .before .before .before .before .before .before .known-told .given)) in
+    omega (arith, c .before .before .put-amount .ensures .1, c .before .before .before .before .before .before .before .before .before .before .before .before .pre)
+
+same-length : tie.Need-same-length
+same-length c = search needs
+
+returns : tie.Need-returns
+returns c = retold 40 (omega arith) (ap (λ (p : Price). 32 ∷ priceText p) (sym (c .before .before .before .before .enum-told .given .1))) (c .before .before .put-absent .ensures)
+
+same-length-2 : tie.Need-same-length-2
+same-length-2 c = search needs
+
+returns-2 : tie.Need-returns-2
+returns-2 c =
+    let p = c .before .before .before .before .before .before .before .before .before .p .given in
+    let h = amount-short (p .0 .0) (omega (arith, c .before .before .before .before .before .before .before .before .known-told .given)) in
+    let f = figure 21 (c .before .before .before .before .before .before .before .before .before .before .before .before .args .at + 1) (c .before .before .put-amount .result) (c .before .before .put-amount .ensures) h in
+    retold 40 (omega arith) (ap (λ (p : Price). 32 ∷ priceText p) (sym (p .1))) (then (byte (c .before .before .before .before .before .before .put-byte .ensures)) f)
+
+pub put-price-spec : {M : Type 1} → statement M
+put-price-spec =
+    tie.close
+    (tie.spec
+    enum-told
+    put-absent-requires
+    enum-known-p
+    put-byte-requires
+    add-result
+    add-put-amount
+    cast-put-amount
+    put-amount-requires
+    add-result-2
+    same-length
+    returns
+    same-length-2
+    returns-2)
