@@ -1,6 +1,6 @@
 -- Laws of runs, numbers, stores and texts, each over the width or the place; the turns of this crate's loops among them.
 -- Assumes nothing.
-use mathlib.Core.Path.{_≡_, refl, ap, sym, _∙_}
+use mathlib.Core.Path.{_≡_, refl, ap, ap₂, sym, _∙_}
 use mathlib.Core.Bool.{true, false}
 use mathlib.Core.List.{List, [], _∷_, _++_, append-nil}
 use Prim.Native.Nat.{ℕ, zero, suc, _+_, _-_, _*_, _/_, _%_, _^_, _≤_, _<_}
@@ -10,7 +10,7 @@ use native.Mathlib.Omega.{arith}
 use borrow.Author.Tests.{ne-eqb, eq-eqb}
 use lib.Dec.{lit<}
 use lib.ListN.{length, drop, getD, set, length-append, drop-of-length-le, List·getD-eq-default}
-use lib.Seq.{drop-cons, sets, set-comm, sets-eq, drop-length}
+use lib.Seq.{drop-cons, getD-set-other, sets, set-comm, sets-eq, drop-length}
 use Rattle.octets.specs.Run.{tab, past, part, same, Bytes}
 use Rattle.octets.specs.Number.{beAfter, be, digits}
 use Rattle.octets.specs.Text.{ink, inked, all}
@@ -118,6 +118,25 @@ sets-append (x ∷ xs) ys l at =
 -- two runs stored one after the other are one run
 pub sets-then : (xs ys l : List ℕ) (at n : ℕ) → at + length xs ≡ n → sets (sets l at xs) n ys ≡ sets l at (xs ++ ys)
 sets-then xs ys l at n e = ap (λ (k : ℕ). sets (sets l at xs) k ys) (sym e) ∙ sets-append xs ys l at
+
+-- bytes behind a run of stores stay
+pub sets-past : (vs l : List ℕ) (at j : ℕ) → at + length vs ≤ j → getD (sets l at vs) j 0 ≡ getD l j 0
+sets-past [] l at j h = refl
+sets-past (v ∷ vs) l at j h = sets-past vs (set l at v) (suc at) j (omega arith) ∙ getD-set-other l at j v 0 (λ e. omega arith)
+
+pub front-none : (l : List ℕ) (at : ℕ) → l ≡ sets l 0 (part l at 0)
+unfolding part tab
+front-none l at = refl
+
+-- one byte more of a run that is moved to the front
+pub front-turn : (l out : List ℕ) (at i b : ℕ) → out ≡ sets l 0 (part l at i) → b ≡ getD out (at + i) 0 → set out i b ≡ sets l 0 (part l at (i + 1))
+front-turn l out at i b e f =
+    let n = part-length l at i in
+    let g : b ≡ getD l (at + i) 0 = f ∙ ap (λ (x : List ℕ). getD x (at + i) 0) e ∙ sets-past (part l at i) l 0 (at + i) (omega arith) in
+    ap₂ {C = List ℕ} (λ x y. set x i y) e g
+    ∙ sets-then (part l at i) (getD l (at + i) 0 ∷ []) l 0 i (omega arith)
+    ∙ ap (sets l 0) (sym (part-snoc l at i))
+    ∙ ap (λ (k : ℕ). sets l 0 (part l at k)) (sym (add-one i))
 
 -- a list stored over one of its length
 pub sets-all : (l vs : List ℕ) → length vs ≡ length l → sets l 0 vs ≡ vs

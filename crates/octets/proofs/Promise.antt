@@ -16,6 +16,9 @@ use Rattle.octets.proofs.run.byte.Kinds as byte-kinds
 use Rattle.octets.proofs.run.put_byte as put-byte
 use Rattle.octets.proofs.run.put_byte.Reads as put-byte-reads
 use Rattle.octets.proofs.run.put_byte.Kinds as put-byte-kinds
+use Rattle.octets.proofs.run.to_front as to-front
+use Rattle.octets.proofs.run.to_front.Reads as to-front-reads
+use Rattle.octets.proofs.run.to_front.Kinds as to-front-kinds
 use Rattle.octets.proofs.run.paste as paste
 use Rattle.octets.proofs.run.paste.Reads as paste-reads
 use Rattle.octets.proofs.run.paste.Kinds as paste-kinds
@@ -55,6 +58,10 @@ put-byte-one κs a r r′ s s′ h h′ = h ∙ sym h′
 pub paste-one : (κs : Lfts 2) (a : ArgsD paste.signature κs) (r r′ : Unit) (s s′ : AtExit (endedOf 2 paste-kinds.ps paste-kinds.r) κs)
     → paste-reads.Learnt κs a r s → paste-reads.Learnt κs a r′ s′ → now (s .0) ≡ now (s′ .0)
 paste-one κs a r r′ s s′ h h′ = h ∙ sym h′
+
+pub to-front-one : (κs : Lfts 1) (a : ArgsD to-front.signature κs) (r r′ : Unit) (s s′ : AtExit (endedOf 1 to-front-kinds.ps to-front-kinds.r) κs)
+    → to-front-reads.Learnt κs a r s → to-front-reads.Learnt κs a r′ s′ → now (s .0) ≡ now (s′ .0)
+to-front-one κs a r r′ s s′ h h′ = h ∙ sym h′
 
 pub fill-one : (κs : Lfts 2) (a : ArgsD fill.signature κs) (r r′ : Unit) (s s′ : AtExit (endedOf 2 fill-kinds.ps fill-kinds.r) κs)
     → fill-reads.Learnt κs a r s → fill-reads.Learnt κs a r′ s′ → now (s .0) ≡ now (s′ .0)

@@ -65,6 +65,18 @@ pub fn fill(out: &mut [u8], s: &[u8], at: usize)
     }
 }
 
+// Moves n bytes that stand from a place on to the front.
+pub fn to_front(out: &mut [u8], at: usize, n: usize)
+    ensures { λ _. ⌜ now (out .exit) ≡ sets (now (out .entry)) 0 (part (now (out .entry)) at n) ⌝ }
+{
+    let mut i: usize = 0;
+    while i < n {
+        let b = byte_past(out, at, i);
+        put_byte(out, i, b);
+        i += 1;
+    }
+}
+
 // Whether the bytes from a place on are those of t, bytes past the end being 0.
 pub fn same_at(s: &[u8], at: usize, t: &[u8]) -> bool
     ensures { λ r. ⌜ r ≡ same (part (now (s .entry)) at (length (now (t .entry)))) (now (t .entry)) ⌝ }

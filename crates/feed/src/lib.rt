@@ -1,0 +1,46 @@
+// A tape of any length, played in pieces as they come: what a piece leaves over is moved to its front, and the next is read
+// behind it.
+use book::counters::Counters;
+use octets::run::to_front;
+use tape::Stop;
+ghost use Prim.Native.Nat.{min};
+ghost use mathlib.Core.Path.{_≡_};
+ghost use lib.ListN.{take};
+ghost use Rattle.tape.specs.Playing.{stateOf, playRows, playLines};
+ghost use Rattle.feed.specs.Feeding.{fedOf, keptIn};
+
+// What came of a piece: the counters after it, how many of its bytes were used, how many are held at its front now, and
+// why the play stopped.
+pub struct Fed {
+    pub counters: Counters,
+    pub used: usize,
+    pub held: usize,
+    pub stop: Stop,
+}
+
+fn least(n: usize, k: usize) -> usize
+    ensures { λ r. ⌜ r ≡ min n k ⌝ }
+{
+    if n < k { n } else { k }
+}
+
+// Plays the first n bytes of a piece, or all where it has fewer.
+pub fn feed(c: Counters, rows: &mut [u8], lines: &mut [u8], piece: &mut [u8], n: usize) -> Fed
+    ensures said { λ r. ⌜ r ≡ fedOf (stateOf c (now (rows .entry)) (now (lines .entry))) n (now (piece .entry)) ⌝ }
+    ensures rows { λ r. ⌜ now (rows .exit) ≡ playRows (stateOf c (now (rows .entry)) (now (lines .entry))) (take n (now (piece .entry))) ⌝ }
+    ensures lines { λ r. ⌜ now (lines .exit) ≡ playLines (stateOf c (now (rows .entry)) (now (lines .entry))) (take n (now (piece .entry))) ⌝ }
+    ensures piece { λ r. ⌜ now (piece .exit) ≡ keptIn (stateOf c (now (rows .entry)) (now (lines .entry))) n (now (piece .entry)) ⌝ }
+{
+    let k = least(n, piece.len());
+    let p = tape::play(c, rows, lines, &piece[..k]);
+    let after = p.counters;
+    let used = p.used;
+    let stop = p.stop;
+    to_front(piece, used, k - used);
+    Fed {
+        counters: after,
+        used: used,
+        held: k - used,
+        stop: stop,
+    }
+}

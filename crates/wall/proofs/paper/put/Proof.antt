@@ -1,0 +1,23 @@
+-- `wall::paper::put` meets its contract. What is written is no more than the line has.
+-- Assumes nothing.
+use mathlib.Core.Path.{sym}
+use lib.Seq.{length-take-le}
+use native.Mathlib.Omega.{arith}
+use borrow.Author.Needs.{needs}
+use Rattle.wall.proofs.paper.put.Statement.{statement}
+use Rattle.wall.proofs.paper.put.Tie as tie
+
+least-requires : tie.Need-least-requires
+least-requires c κs = search needs
+
+slice-aggregate-write-all : tie.Need-slice-aggregate-write-all
+slice-aggregate-write-all c = sym (length-take-le (c .before .least .result) (c .before .before .before .args .line .now) (omega arith))
+
+write-all-requires : tie.Need-write-all-requires
+write-all-requires c κs = search needs
+
+returns : tie.Need-returns
+returns c = search needs
+
+pub put-spec : {M : Type 1} → statement M
+put-spec = tie.close (tie.spec least-requires slice-aggregate-write-all write-all-requires returns)
