@@ -56,7 +56,7 @@ use Rattle.clerk.proofs.Wall.{row-shown, row-missing}
 -- any listings. The last two: counters and rows as they are left
 pub data Lists : Counters → List ℕ → List ℕ → List Listing → Counters → List ℕ → Type 1 where
   no-listing : {c : Counters} {rows lines : List ℕ} → Lists c rows lines [] c rows
-  -- a symbol is eight bytes by its type
+  -- a symbol is eight bytes by its type: `entered` in crates/book/proofs/list/Proof.antt proves it of every call
   a-listing : (κs : Lfts 2) (a : ArgsD list.signature κs) (r : Said) (s : AtExit (endedOf 2 list-kinds.ps list-kinds.r) κs) {ls : List Listing} {d : Counters} {end : List ℕ}
       → length (a .1 .1 .1 .0) ≡ 8 → list-reads.Learnt κs a r s → Lists (r .counters) (now (s .1 .0)) (now (a .1 .1 .0)) ls d end
       → Lists (a .0) (now (a .1 .0)) (now (a .1 .1 .0)) (record { symbol = a .1 .1 .1 .0; close = a .1 .1 .1 .1 .0 } ∷ ls) d end
@@ -64,7 +64,7 @@ pub data Lists : Counters → List ℕ → List ℕ → List Listing → Counter
 -- any deliveries. The last three: counters, rows and lines as they are left
 pub data Delivers : Counters → List ℕ → List ℕ → List Arrival → Counters → List ℕ → List ℕ → Type 1 where
   no-message : {c : Counters} {rows lines : List ℕ} → Delivers c rows lines [] c rows lines
-  -- lent lines and a message are bytes by their types
+  -- lent lines and a message are bytes by their types: `entered` in crates/book/proofs/deliver/Proof.antt proves it of every call
   a-message : (κs : Lfts 3) (a : ArgsD deliver.signature κs) (r : Said) (s : AtExit (endedOf 3 deliver-kinds.ps deliver-kinds.r) κs)
       {l : List Arrival} {d : Counters} {endRows endLines : List ℕ}
       → Bytes (now (a .1 .1 .0)) → Bytes (now (a .1 .1 .1 .1 .0)) → deliver-reads.Learnt κs a r s
@@ -89,7 +89,7 @@ pub record Day (rows lines : List ℕ) (ls : List Listing) (l : List Arrival) (d
 
 -- ---- the sheet
 
--- a book, where it stands, and that it is sound in rooms of these lengths
+-- these counters and lent bytes come to the book b and are sound, and the rooms are R and L bytes long
 pub record Stands (R L : ℕ) (b : Book) (c : Counters) (rows lines : List ℕ) : Type 0 where
   pub reads : bookOf c rows lines ≡ b
   pub safe : sound c (length rows) (length lines) ≡ true
@@ -372,8 +372,8 @@ module _ (day : ℕ → List ℕ) (N n : ℕ) (fits : N ≤ 4294967295) (l : Lis
   pub named-once : NoRepeat (namedIn (takenOf sheet room (upto day n)))
   named-once = at-most-once sheet room (upto day n)
 
--- two runs of one day with one sheet, one size of room for lines and one n end in one book, the clerk's, whatever the rooms
--- held before
+-- two runs of one day with one sheet, one size of room for lines and one n end in the clerk's book, both, and so in equal books,
+-- whatever the rooms held before
 pub equal-books : (day : ℕ → List ℕ) (N n : ℕ) → N ≤ 4294967295
     → {rows lines : List ℕ} {ls : List Listing} {l : List Arrival} {d : Counters} {endRows endLines : List ℕ}
     → {rows′ lines′ : List ℕ} {ls′ : List Listing} {l′ : List Arrival} {d′ : Counters} {endRows′ endLines′ : List ℕ}
@@ -381,15 +381,22 @@ pub equal-books : (day : ℕ → List ℕ) (N n : ℕ) → N ≤ 4294967295
     → Copies day N l → Copies day N l′ → Largest (numbers l) n → Largest (numbers l′) n
     → Day rows lines ls l d endRows endLines → Day rows′ lines′ ls′ l′ d′ endRows′ endLines′
     → let clerks = clerkBook (sheetOf (rowLimit (length rows)) ls) (lineLimit (length lines)) (upto day n) in
-    (bookOf d endRows endLines ≡ clerks) × (bookOf d′ endRows′ endLines′ ≡ clerks)
-equal-books day N n fits {rows} {lines} {ls} {l} {d} {endRows} {endLines} {rows′} {lines′} {ls′} {l′} {d′} {endRows′} {endLines′} el es c c′ g g′ h h′ = (
-  one-true-day day N n fits l c g h .1,
-  one-true-day day N n fits l′ c′ g′ h′ .1
-      ∙ sym (
-      ap (λ (s : List Listing). clerkBook s (lineLimit (length lines)) (upto day n)) es
-      ∙ ap (λ (k : ℕ). clerkBook (sheetOf (rowLimit (length rows′)) ls′) (lineLimit k) (upto day n)) el
-      ),
-)
+    (bookOf d endRows endLines ≡ clerks) × (bookOf d′ endRows′ endLines′ ≡ clerks) × (bookOf d endRows endLines ≡ bookOf d′ endRows′ endLines′)
+equal-books day N n fits {rows} {lines} {ls} {l} {d} {endRows} {endLines} {rows′} {lines′} {ls′} {l′} {d′} {endRows′} {endLines′} el es c c′ g g′ h h′ = (one, other, one ∙ sym other)
+  where
+    clerks : Book
+    clerks = clerkBook (sheetOf (rowLimit (length rows)) ls) (lineLimit (length lines)) (upto day n)
+
+    one : bookOf d endRows endLines ≡ clerks
+    one = one-true-day day N n fits l c g h .1
+
+    other : bookOf d′ endRows′ endLines′ ≡ clerks
+    other =
+        one-true-day day N n fits l′ c′ g′ h′ .1
+        ∙ sym (
+        ap (λ (s : List Listing). clerkBook s (lineLimit (length lines)) (upto day n)) es
+        ∙ ap (λ (k : ℕ). clerkBook (sheetOf (rowLimit (length rows′)) ls′) (lineLimit k) (upto day n)) el
+        )
 
 -- ---- listings come before messages
 

@@ -11,7 +11,7 @@ use borrow.Author.Tests.{eqb-true, eqb-false, ne-eqb}
 use lib.Dec.{eqb}
 use Rattle.table.specs.Table.{lowest, numberTable}
 use Rattle.table.proofs.Tables.{number-wanted}
-use Rattle.clerk.specs.Steps.{Book, next, after, taking, passedOver, content}
+use Rattle.clerk.specs.Steps.{Book, next, after, taking, usingUp, content}
 use Rattle.message.specs.Reading.{readOf}
 use Rattle.clerk.specs.Arrivals.{run, Largest, Arrival, numbers, Copies, upto, play, deliverEach}
 
@@ -81,10 +81,10 @@ next-other limit b n m ne =
     rw z
 
 pub after-wanted : (limit : ℕ) (b : Book) (m : List ℕ) → after limit b m .wanted ≡ suc (b .wanted)
-unfolding after taking passedOver
+unfolding after taking usingUp
 after-wanted limit b m = go (eqb (content limit b m) 0)
   where
-    go : (t : Bool) → cond t (taking (readOf m .found) b) (passedOver b) .wanted ≡ suc (b .wanted)
+    go : (t : Bool) → cond t (taking (readOf m .found) b) (usingUp b) .wanted ≡ suc (b .wanted)
     go true = add-one (b .wanted)
     go false = add-one (b .wanted)
 

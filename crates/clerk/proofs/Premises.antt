@@ -1,4 +1,6 @@
--- Nothing that one true day asks for can be left out: for each there is a day on which the book is not the clerk's.
+-- What one true day asks for, and what fails without it: for its order, its copies and the way its calls are made, small days on which
+-- a figure of the book is not the clerk's; for a number above N, that n is at most N; for N itself, that the last message is used.
+-- What `Lists` and `Delivers` ask besides holds of every call by its types.
 -- Assumes nothing.
 use Prim.Native.Nat.{ℕ, zero, suc, _≤_}
 use mathlib.Core.Path.{_≡_, refl, sym, ap, subst, _∙_}
@@ -36,7 +38,9 @@ premises-needed =
       notLargest = (refl, refl);
       notFresh = (refl, refl);
       lateListing = (refl, refl);
-      otherRoom = (refl, refl);
+      otherRows = (refl, refl);
+      otherSize = (refl, refl);
+      otherLines = (refl, refl);
       oldCounters = (refl, refl);
     }
 

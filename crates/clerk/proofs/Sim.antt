@@ -24,7 +24,7 @@ use Rattle.store.specs.Changed.{dead, listedRow}
 use Rattle.table.specs.Messages.{isEvent, isSummary, namesOld, makesNew, phaseOf, oldKey, newKey, newSale}
 use Rattle.table.specs.Table.{lowest, listed, symbolsOf, contentTable, listTable}
 use Rattle.table.specs.Taking.{madeLine, correctedLine}
-use Rattle.clerk.specs.Steps.{Book, lineFound, killFound, linesAfter, kept, keepFound, rowsAfter, taking, passedOver, content, after}
+use Rattle.clerk.specs.Steps.{Book, lineFound, killFound, linesAfter, kept, keepFound, rowsAfter, taking, usingUp, content, after}
 use Rattle.clerk.specs.Clerk.{Listing, symbolsIn, sheetFrom, Taken, phaseAfter, Origin, originOf, names, trade, made, tradesBut, tradesOf, answerTo, takenOf, summaryOf, reportedOf, rowOf, bookBy, clerkBook}
 use Rattle.clerk.specs.Arrivals.{play}
 use Rattle.clerk.specs.Claims.{NoRepeat, keysOf}
@@ -322,10 +322,10 @@ module _ (sheet : List Listing) (limit : ℕ) where
         rw (phase-step (suc n) r es, rows-step (suc n) r es sheet d, lines-step (suc n) r es u, add-one (suc n), add-one (length es), sym (lines-count (suc n) r es))
 
     after-is : after limit (bookBy sheet es n) m ≡ bookBy sheet (cond (eqb (answerTo sheet limit es m) 0) more es) (suc n)
-    unfolding after passedOver bookBy
+    unfolding after usingUp bookBy
     after-is = rw (content-is es n m) (go (eqb (answerTo sheet limit es m) 0))
       where
-        go : (t : Bool) → cond t (taking (readOf m .found) (bookBy sheet es n)) (passedOver (bookBy sheet es n)) ≡ bookBy sheet (cond t more es) (suc n)
+        go : (t : Bool) → cond t (taking (readOf m .found) (bookBy sheet es n)) (usingUp (bookBy sheet es n)) ≡ bookBy sheet (cond t more es) (suc n)
         go true = taking-is
         go false = rw (add-one (suc n))
 

@@ -33,7 +33,7 @@ use Rattle.book.specs.Counting.{freshCounters, usedUp, oneRowMore, takenBy, sou
 use Rattle.book.specs.Calls.{listAnswer, listSaid, listRows, deliverAnswer, deliverSaid, deliverRows, deliverLines}
 use Rattle.book.proofs.Sound.{Within, sound-gives}
 use Rattle.book.proofs.Demand1.{refused-keeps, touches-only, made-fits, corrected-fits}
-use Rattle.clerk.specs.Steps.{Book, bookOf, linesAfter, rowsAfter, taking, passedOver, content, after, next, listing}
+use Rattle.clerk.specs.Steps.{Book, bookOf, linesAfter, rowsAfter, taking, usingUp, content, after, next, listing}
 use Rattle.clerk.proofs.Letters.{Tests, Letter, S, T, X, C, J, none, letter-of, Passed, passed, listable}
 
 -- ---- what a search found
@@ -186,7 +186,7 @@ module _ (c : Counters) (rows lines : List ℕ) (n : ℕ) (m : List ℕ) (safe :
   -- not the wanted number; refused, the number used up; taken
   data Outcome : Type 0 where
     left : Ends c rows lines → next limit b n m ≡ b → Outcome
-    over : c .wanted ≤ 4294967295 → Ends (usedUp c) rows lines → next limit b n m ≡ passedOver b → Outcome
+    over : c .wanted ≤ 4294967295 → Ends (usedUp c) rows lines → next limit b n m ≡ usingUp b → Outcome
     took : c .wanted ≤ 4294967295 → Passed (c .phase) (symbolsOf (usedRows rows (c .rows))) (usedLines lines (c .lines)) limit r
         → Ends (moved r c) (rowsBy rows r rowThere) (linesBy lines (c .lines) (c .wanted) r lineThere)
         → next limit b n m ≡ taking r b → Outcome
@@ -261,7 +261,7 @@ module _ (c : Counters) (rows lines : List ℕ) (n : ℕ) (m : List ℕ) (safe :
 
   pub deliver-step : Bytes lines → Bytes m
       → bookOf (deliverSaid c rows lines n m .counters) (deliverRows c rows lines n m) (deliverLines c rows lines n m) ≡ next (lineLimit (length lines)) (bookOf c rows lines) n m
-  unfolding bookOf passedOver
+  unfolding bookOf usingUp
   deliver-step bl bm = go (outcome c rows lines n m safe)
     where
       go : Outcome c rows lines n m safe

@@ -31,7 +31,8 @@ pub record Listing : Type 0 where
 abbrev pub symbolsIn : List Listing → List (List ℕ)
 symbolsIn sheet = map (λ (l : Listing). l .symbol) sheet
 
--- a listing is on the sheet if the table gives 0, worked from the listings before it, no number being used up yet
+-- a listing is on the sheet if the table gives 0, worked from the listings before it, no number being used up yet; `limit` is how many
+-- rows the room has
 unfoldable pub sheetFrom : ℕ → List Listing → List Listing → List Listing
 sheetFrom limit sheet [] = sheet
 sheetFrom limit sheet (l ∷ ls) =
@@ -51,12 +52,12 @@ unfoldable pub phaseAfter : List Taken → ℕ
 phaseAfter [] = 0
 phaseAfter (e ∷ es) = cond (isEvent (e .message)) (phaseOf (e .message .event)) (phaseAfter es)
 
--- the place and time of a trade, by its key
+-- the place and time of a trade
 pub record Origin : Type 0 where
   pub place : ℕ
   pub time : ℕ
 
--- of a T its number and time; of a C those of the trade that it named, through any chain of corrections
+-- by a trade's key: of a T its number and time; of a C those of the trade that it named, through any chain of corrections
 unfoldable pub originOf : List Taken → List ℕ → Origin
 originOf [] key = record { place = 0; time = 0 }
 originOf (e ∷ es) key =
@@ -87,6 +88,7 @@ trade e o later =
 abbrev pub made : Taken → List Taken → List (List ℕ) → List Line
 made e es later = cond (makesNew (e .message)) (trade e (originOf (e ∷ es) (newKey (e .message))) later ∷ []) []
 
+-- the trades of these taken messages, the oldest first, where the keys `later` were named after all of them
 unfoldable pub tradesBut : List (List ℕ) → List Taken → List Line
 tradesBut later [] = []
 tradesBut later (e ∷ es) = tradesBut (names (e .message) ++ later) es ++ made e es later
@@ -97,11 +99,12 @@ tradesOf es = tradesBut [] es
 
 -- ---- which messages are taken
 
--- what the table gives for a message, worked from the sheet, the room and the taken messages before it
+-- what the table gives for a message, worked from the sheet, the room and the taken messages before it; `limit` is how many lines the
+-- room has
 abbrev pub answerTo : List Listing → ℕ → List Taken → List ℕ → ℕ
 answerTo sheet limit es m = lowest (contentTable (phaseAfter es) (symbolsIn sheet) (tradesOf es) limit (readOf m))
 
--- a message is taken if that is 0
+-- a message is taken if that is 0; `limit` is of lines here too
 unfoldable pub takenOf : List Listing → ℕ → List (List ℕ) → List Taken
 takenOf sheet limit [] = []
 takenOf sheet limit (m ∷ ms) =

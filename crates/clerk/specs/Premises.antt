@@ -1,5 +1,6 @@
--- What a day comes to without one of the things that its theorems ask for: small days, each with what the calls leave and what the
--- clerk says, which differ. The day's messages are event O, a trade and its cancel.
+-- Small days, each without one of the things that `one-true-day` asks for, and each with one figure that the calls leave and the
+-- clerk's, which differ. A number above N is told of numbers alone: what fails there is that n is at most N. A day shows that the thing
+-- cannot be left out altogether, not that less of it would not do. The day's messages are event O, a trade and its cancel.
 -- Assumes nothing.
 use Prim.Native.Nat.{ℕ, _≤_}
 use mathlib.Core.Path.{_≡_}
@@ -13,7 +14,7 @@ use Rattle.clerk.specs.Steps.{Book}
 use Rattle.clerk.specs.Clerk as Clerk
 use Rattle.clerk.specs.Clerk.{sheetOf, clerkBook}
 use Rattle.clerk.specs.Arrivals.{Largest, upto}
-use Rattle.clerk.specs.Days.{abcd, q1, event, trade, cancel, dayOf, rowsRoom, linesRoom, Kept, opened, given, keptAfter, clerkShows}
+use Rattle.clerk.specs.Days.{abcd, q1, event, trade, cancel, dayOf, alone, rowsRoom, linesRoom, Kept, opened, given, keptAfter, clerkShows}
 
 abbrev pub day : ℕ → List ℕ
 day = dayOf (event 1 79 ∷ trade 2 81 q1 100 ∷ cancel 3 81 q1 200 ∷ [])
@@ -21,12 +22,12 @@ day = dayOf (event 1 79 ∷ trade 2 81 q1 100 ∷ cancel 3 81 q1 200 ∷ [])
 -- the clerk's book after the first n
 unfoldable pub clerks : ℕ → Book
 unfolding clerkShows Clerk.bookBy Clerk.clerkBook
-clerks n = clerkBook (sheetOf (rowLimit rowsRoom) (record { symbol = abcd; close = 250000 } ∷ [])) (lineLimit linesRoom) (upto day n)
+clerks n = clerkBook (sheetOf (rowLimit rowsRoom) (alone 250000)) (lineLimit linesRoom) (upto day n)
 
 -- the book with the sheet finished, and with nothing done
 unfoldable pub ready : Kept
 unfolding clerks
-ready = opened 250000
+ready = opened (alone 250000)
 
 unfoldable pub untouched : Kept
 unfolding ready
@@ -43,9 +44,9 @@ unfolding afterThese
 begun = record { counters = usedUp (ready .counters); rows = ready .rows; lines = ready .lines }
 
 pub record Breaks : Type 0 where
-  -- a copy with other bytes: number 1 comes as event S, and the day has event O
-  pub otherBytes : (given ready 1 (event 1 83) .counters .phase ≡ 2) × (clerks 1 .phase ≡ 1)
-  -- a number above N: 1 and 2 come, where N is 1
+  -- copies that differ: 2 comes as the day has it, a trade, and is too early; then 1; then 2 as event S, and that is used
+  pub otherBytes : (given (given (given ready 2 (day 2)) 1 (day 1)) 2 (event 2 83) .counters .phase ≡ 2) × (clerks 2 .phase ≡ 1)
+  -- a number above N: 1 and 2 come, where N is 1. No book and no clerk is asked here: what fails is `n ≤ N`
   pub aboveLast : Largest (1 ∷ 2 ∷ []) 2 × (2 ≤ 1 → ⊥)
   -- n counts numbers that did not come in order: 2, then 1
   pub otherOrder : (afterThese (2 ∷ 1 ∷ []) .counters .wanted ≡ 2) × (clerks 2 .wanted ≡ 3)
@@ -57,8 +58,16 @@ pub record Breaks : Type 0 where
   pub lateListing :
       let k = given untouched 1 (day 1) in
       (listSaid (k .counters) (k .rows) (k .lines) abcd 250000 .counters .rows ≡ 0) × (clerks 1 .listed ≡ 1)
-  -- another room for lines is lent between two calls
-  pub otherRoom :
+  -- another room for rows is lent after number 1: the trade's symbol is not listed there
+  pub otherRows :
+      let k = afterThese (1 ∷ []) in
+      (deliverSaid (k .counters) (replicate rowsRoom 35) (k .lines) 2 (day 2) .counters .taken ≡ 1) × (clerks 2 .taken ≡ 2)
+  -- no room for lines is lent after number 1: the trade gives 12, and the clerk knows the room that was lent at first
+  pub otherSize :
+      let k = afterThese (1 ∷ []) in
+      (deliverSaid (k .counters) (k .rows) [] 2 (day 2) .counters .taken ≡ 1) × (clerks 2 .taken ≡ 2)
+  -- another room for lines, of the same size, is lent after number 2: the cancel finds no line
+  pub otherLines :
       let k = afterThese (1 ∷ 2 ∷ []) in
       (deliverSaid (k .counters) (k .rows) (replicate linesRoom 35) 3 (day 3) .counters .taken ≡ 2) × (clerks 3 .taken ≡ 3)
   -- the counters of an earlier call are handed in again

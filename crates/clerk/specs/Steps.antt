@@ -82,8 +82,9 @@ taking r b =
 
 -- ---- what a call does
 
-unfoldable pub passedOver : Book → Book
-passedOver b =
+-- used up: the wanted number up by one, all else equal
+unfoldable pub usingUp : Book → Book
+usingUp b =
     record {
       wanted = b .wanted + 1;
       phase = b .phase;
@@ -100,7 +101,7 @@ content limit b m = lowest (contentTable (b .phase) (symbolsOf (b .rows)) (b .li
 
 -- the wanted message: taken, or its number used up
 unfoldable pub after : ℕ → Book → List ℕ → Book
-after limit b m = cond (eqb (content limit b m) 0) (taking (readOf m .found) b) (passedOver b)
+after limit b m = cond (eqb (content limit b m) 0) (taking (readOf m .found) b) (usingUp b)
 
 -- a message under any number; `limit` is how many lines the room has
 unfoldable pub next : ℕ → Book → ℕ → List ℕ → Book
