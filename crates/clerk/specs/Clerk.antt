@@ -146,5 +146,6 @@ bookBy sheet es n =
       taken = length es;
     }
 
+-- after these used messages, in a room for `limit` lines
 unfoldable pub clerkBook : List Listing → ℕ → List (List ℕ) → Book
 clerkBook sheet limit ms = bookBy sheet (takenOf sheet limit ms) (length ms)

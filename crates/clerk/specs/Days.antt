@@ -125,7 +125,8 @@ w = event 1 79
 
 -- ---- a case of the table
 
--- the sheet; the messages 1 and up; the numbers as they arrive; the answers to them; how many numbers are used up; the row of each listing
+-- the sheet; the messages from 1 on; the numbers as they arrive; what is said back to each; how many are used up; what the row of each
+-- listing shows
 pub record Case : Type 0 where
   pub sheet : List Listing
   pub day : List (List ℕ)
@@ -311,7 +312,7 @@ days =
     ∷ record { sheet = alone 250000; day = w; arrivals = 1 ∷ 1 ∷ 2 ∷ 2 ∷ 1 ∷ 3 ∷ []; said = 0 ∷ 2 ∷ 0 ∷ 2 ∷ 2 ∷ 0 ∷ []; used = 3; shown = priced 250000 260000 260000 251000 (Amount (pos 10000)) 400 2 400 ∷ [] }
     -- X with another price, another condition, a key that no line bears; X of Q 1; its key again; X of it with another size
     ∷ record { sheet = alone 250000; day = event 1 79 ∷ trade 2 81 q1 100 ∷ cancel 3 81 (sale 49 251001 100 plain) 300 ∷ cancel 4 81 (sale 49 251000 100 (codes 64 70 32 32)) 400 ∷ cancel 5 81 q2 500 ∷ cancel 6 81 q1 600 ∷ trade 7 81 q1 700 ∷ cancel 8 81 (sale 49 251000 99 plain) 800 ∷ []; arrivals = 1 ∷ 2 ∷ 3 ∷ 4 ∷ 5 ∷ 6 ∷ 7 ∷ 8 ∷ []; said = 0 ∷ 0 ∷ 10 ∷ 10 ∷ 8 ∷ 0 ∷ 11 ∷ 9 ∷ []; used = 8; shown = figures 250000 Absent Absent Absent NoNet 0 0 false (Volume 600) ∷ [] }
-    -- when events and trades are due: T, S, T, S, O, Q, T, M, T, Q, E, M, T, C, T, E, where the T at 1, before any event, and at 15, after C, are not
+    -- when events and trades are due: T S T S O Q T M T Q E M T C T E; number 1 comes before any event, number 15 after event C
     ∷ record { sheet = alone 1000; day = trade 1 81 (sale 49 5000 1 plain) 1 ∷ event 2 83 ∷ trade 3 81 (sale 50 1000 2 plain) 3 ∷ event 4 83 ∷ event 5 79 ∷ event 6 81 ∷ trade 7 81 (sale 51 900 4 plain) 7 ∷ event 8 77 ∷ trade 9 81 (sale 52 1100 8 plain) 9 ∷ event 10 81 ∷ event 11 69 ∷ event 12 77 ∷ trade 13 81 (sale 53 1050 16 plain) 13 ∷ event 14 67 ∷ trade 15 81 (sale 54 100 32 plain) 15 ∷ event 16 69 ∷ []; arrivals = 1 ∷ 2 ∷ 3 ∷ 4 ∷ 5 ∷ 6 ∷ 7 ∷ 8 ∷ 9 ∷ 10 ∷ 11 ∷ 12 ∷ 13 ∷ 14 ∷ 15 ∷ 16 ∷ []; said = 6 ∷ 0 ∷ 0 ∷ 6 ∷ 6 ∷ 0 ∷ 0 ∷ 0 ∷ 0 ∷ 6 ∷ 0 ∷ 6 ∷ 0 ∷ 0 ∷ 6 ∷ 6 ∷ []; used = 16; shown = priced 1000 1050 1100 900 (Amount (pos 50)) 30 4 13 ∷ [] }
     -- every line used: X of the first, a T, a C of the second, X of the second
     ∷ record { sheet = alone 1000; day = event 1 79 ∷ trade 2 81 (sale 49 100 1 plain) 2 ∷ trade 3 81 (sale 50 200 2 plain) 3 ∷ trade 4 81 (sale 51 300 3 plain) 4 ∷ trade 5 81 (sale 52 400 4 plain) 5 ∷ trade 6 81 (sale 53 500 5 plain) 6 ∷ trade 7 81 (sale 54 600 6 plain) 7 ∷ trade 8 81 (sale 55 700 7 plain) 8 ∷ trade 9 81 (sale 56 800 8 plain) 9 ∷ trade 10 81 (sale 57 900 9 plain) 10 ∷ trade 11 81 (sale 65 1000 10 plain) 11 ∷ trade 12 81 (sale 66 1100 11 plain) 12 ∷ trade 13 81 (sale 67 1200 12 plain) 13 ∷ cancel 14 81 (sale 49 100 1 plain) 14 ∷ trade 15 81 (sale 68 1300 13 plain) 15 ∷ correct 16 81 (sale 50 200 2 plain) (sale 69 1400 14 plain) 16 ∷ cancel 17 81 (sale 50 200 2 plain) 17 ∷ []; arrivals = 1 ∷ 2 ∷ 3 ∷ 4 ∷ 5 ∷ 6 ∷ 7 ∷ 8 ∷ 9 ∷ 10 ∷ 11 ∷ 12 ∷ 13 ∷ 14 ∷ 15 ∷ 16 ∷ 17 ∷ []; said = 0 ∷ 0 ∷ 0 ∷ 0 ∷ 0 ∷ 0 ∷ 0 ∷ 0 ∷ 0 ∷ 0 ∷ 0 ∷ 0 ∷ 0 ∷ 0 ∷ 12 ∷ 12 ∷ 0 ∷ []; used = 17; shown = priced 1000 1200 1200 300 (Amount (pos 200)) 75 10 17 ∷ [] }

@@ -63,7 +63,7 @@ due phase r = cond (isEvent r) (ltb phase (phaseOf (r .event))) (trading phase)
 abbrev pub keyOf : Record → Sale → List ℕ
 keyOf r s = r .centre ∷ s .control
 
--- by the sale that comes first in the message: the original that X and C name; of T its own trade, so that it is also the key of T's line
+-- of what stands first in the message: of X and C the original that they name, of T its own trade, whose line gets this key
 abbrev pub oldKey : Record → List ℕ
 oldKey r = keyOf r (r .sale)
 
