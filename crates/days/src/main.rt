@@ -1,25 +1,17 @@
-// Days played by hand, in small rooms, over odd contents and by chance: each call with what it answers and the book
-// after it.
-mod alone;
-mod answers;
-mod chance;
-mod contents;
-mod draw;
-mod made;
+// Days played from a script: each call with what it answers and the book after it.
+mod form;
 mod play;
 mod rooms;
 mod script;
-mod small;
 mod tell;
-mod unsound;
 
+use libc::STDIN_FILENO;
+
+// The script is shorter than what is read of it.
 fn main() {
-    tell::words(b"call: answer; wanted phase rows lines taken; ");
-    tell::words(b"sum of the rows' bytes, sum of the lines' bytes\n");
-    alone::all();
-    answers::all();
-    unsound::all();
-    small::all();
-    contents::all();
-    chance::all();
+    let mut text = io::large_buffer();
+    let n = io::read_full(STDIN_FILENO, &mut text);
+    let mut rows = [0u8; 7710];
+    let mut lines = [0u8; 480];
+    script::play(&text[..n], &mut rows, &mut lines);
 }

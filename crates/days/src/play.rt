@@ -5,13 +5,18 @@ use book::Said;
 use book::counters::Counters;
 use libc::STDOUT_FILENO;
 use message::answer;
+use octets::number::number4;
+use octets::number::number8;
+use octets::run;
 use show::Net;
 use show::RowShown;
 use store::rows::Reported;
 use walk::Price;
-ghost use Prim.Native.Nat.{_≤_};
+ghost use Rattle.io.specs.Counts.{Counts};
 
-pub fn list(c: Counters, rows: &mut [u8], lines: &[u8], symbol: [u8; 8], close: u32) -> Counters {
+pub fn list(c: Counters, rows: &mut [u8], lines: &[u8], code: &[u8]) -> Counters {
+    let symbol = symbol(code);
+    let close = number4(code, 9);
     tell::words(b"list ");
     tell::words(&symbol);
     tell::field(b" ", close as u64);
@@ -19,41 +24,67 @@ pub fn list(c: Counters, rows: &mut [u8], lines: &[u8], symbol: [u8; 8], close: 
     after(said, rows, lines)
 }
 
-// The length of a type's messages.
-pub fn length(letter: u8) -> usize {
-    match letter {
-        b'S' => 6,
-        b'J' => 34,
-        b'C' => 67,
-        _ => 45,
-    }
+fn symbol(code: &[u8]) -> [u8; 8] {
+    let mut symbol = [0u8; 8];
+    run::fill(&mut symbol, code, 1);
+    symbol
 }
 
-// The first n bytes under a number.
-pub fn deliver(
+pub fn deliver(c: Counters, rows: &mut [u8], lines: &mut [u8], code: &[u8]) -> Counters {
+    if code.len() < 10 {
+        return c;
+    }
+    give(
+        c,
+        rows,
+        lines,
+        number8(code, 1),
+        run::byte(code, 9) as usize,
+        &code[10..],
+    )
+}
+
+// The first n bytes under a number; the others name them.
+fn give(
     c: Counters,
     rows: &mut [u8],
     lines: &mut [u8],
     number: u64,
-    bytes: &[u8],
     n: usize,
+    bytes: &[u8],
 ) -> Counters {
-    let k = least(n, bytes.len());
+    let k = least(n, bytes);
+    tell::field(b"deliver ", number);
+    tell::rest(bytes, k);
     let said = book::deliver(c, rows, lines, number, &bytes[..k]);
     after(said, rows, lines)
 }
 
-fn least(n: usize, k: usize) -> usize
-    ensures { λ r. ⌜ r ≤ k ⌝ }
+// So many of a slice's bytes, or all.
+pub fn least(n: usize, s: &[u8]) -> usize
+    ensures { λ r. ⌜ Counts r (now (s .entry)) ⌝ }
 {
-    if n < k { n } else { k }
+    if n < s.len() { n } else { s.len() }
 }
 
-// What is delivered.
-pub fn name(number: u64, name: &[u8]) {
-    tell::field(b"deliver ", number);
-    tell::words(b" ");
-    tell::words(name);
+// The writer by itself, and what the reader says of the space then.
+pub fn write(space: &mut [u8], code: &[u8]) {
+    let sound = message::read(b"\x00\x00\x03\xe8SO");
+    let mut r = sound.found;
+    r.event = run::byte(code, 1);
+    let a = message::write(r, space);
+    tell::words(b"write ");
+    tell::rest(code, 1);
+    tell::field(b": ", answer::number(a) as u64);
+    tell::field(b"; ", rooms::sum(space));
+    read(space);
+}
+
+fn read(space: &[u8]) {
+    let said = message::read(space);
+    let a = said.answer;
+    tell::field(b"; read: ", answer::number(a) as u64);
+    tell::words(b"\n");
 }
 
 fn after(said: Said, rows: &[u8], lines: &[u8]) -> Counters {
@@ -76,7 +107,8 @@ pub fn state(c: Counters, rows: &[u8], lines: &[u8]) {
     tell::words(b"\n");
 }
 
-pub fn row(c: Counters, rows: &[u8], lines: &[u8], symbol: [u8; 8]) {
+pub fn row(c: Counters, rows: &[u8], lines: &[u8], code: &[u8]) {
+    let symbol = symbol(code);
     tell::words(b"row ");
     tell::words(&symbol);
     let said = book::row(c, rows, lines, symbol);
@@ -93,7 +125,7 @@ fn shown(r: RowShown) {
     let low = r.low;
     let change = r.net;
     let volume = r.reported;
-    io::print_hex(STDOUT_FILENO, octets::number::number8(&found, 0), 16);
+    io::print_hex(STDOUT_FILENO, number8(&found, 0), 16);
     tell::field(b" close ", r.close as u64);
     price(b" last ", last);
     price(b" high ", high);

@@ -68,6 +68,18 @@ fn tell_part(room: &[u8], at: usize, sign: u8) -> usize {
     }
 }
 
+// Bytes stored at the place that stands before them.
+pub fn paste(room: &mut [u8], code: &[u8]) {
+    if 9 <= code.len() {
+        run::paste(room, number8(code, 1) as usize, &code[9..]);
+    }
+}
+
+pub fn fill(room: &mut [u8], b: u8) {
+    let all = [b; 7710];
+    run::fill(room, &all, 0);
+}
+
 // A sum that no change of one byte leaves as it was.
 pub fn sum(room: &[u8]) -> u64 {
     let mut sum: u64 = 0;

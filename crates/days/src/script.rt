@@ -1,35 +1,43 @@
-// The calls of a day by hand, one after the other, each in a line of text. A line starts with a letter:
-// L lists a symbol, with its close; R reads a symbol's row, and a dot ends it;
-// D delivers a message, W one under the wanted number, F the first bytes of one with price 2000000001, the size saying
-// how many: symbol, number, type and time, centre or event, sale (of a summary high and low), of C the new sale, name;
-// N names the book as it is, B sets wanted, phase, rows, lines and taken and names that.
-// After a call with a star both rooms are told.
-use crate::made;
+// A script's lines, one after the other. A line starts with a letter; numbers in it stand in brackets, as `form` says:
+// B starts a book: {bytes for rows}{bytes for lines}, a byte that fills both; its counters are fresh;
+// K sets the counters: {wanted}{phase}{rows}{lines}{taken}; r and l store bytes in the rows' and the lines' room: {place}bytes;
+// L lists: symbol<close>; R reads a row: symbol; D delivers: {number}(length)message, then its name;
+// W writes an event, under its name, into the rows' room and reads that;
+// N names the book as it is; T tells both rooms, t with each cell in a line of its own; a quote tells the rest of the line.
+// Any other line is passed over.
+use crate::form;
 use crate::play;
 use crate::rooms;
 use crate::tell;
 use book::counters::Counters;
-use message::Record;
-use message::Sale;
+use octets::number::number8;
 use octets::run;
 ghost use Prim.Native.Nat.{_≤_, _<_};
 ghost use lib.ListN.{length};
 
-pub fn play(
-    text: &[u8],
-    gap: &[u8],
-    from: Counters,
-    rows: &mut [u8],
-    lines: &mut [u8],
-) -> Counters {
-    let mut c = from;
+// A book's counters, and how many bytes are lent to it.
+struct Day {
+    counters: Counters,
+    rows: usize,
+    lines: usize,
+}
+
+pub fn play(text: &[u8], rows: &mut [u8], lines: &mut [u8]) {
+    let mut day = fresh(0, 0);
     let mut at: usize = 0;
     while at < text.len() {
         let e = end(text, at);
-        c = step(c, rows, lines, &text[at..e], gap);
+        day = step(day, rows, lines, &text[at..e]);
         at = e + 1;
     }
-    c
+}
+
+fn fresh(rows: usize, lines: usize) -> Day {
+    Day {
+        counters: book::fresh(),
+        rows,
+        lines,
+    }
 }
 
 // Where the line ends that a place is in.
@@ -47,140 +55,80 @@ fn end(text: &[u8], from: usize) -> usize
     at
 }
 
-fn step(c: Counters, rows: &mut [u8], lines: &mut [u8], line: &[u8], gap: &[u8]) -> Counters {
-    let after = call(c, rows, lines, line);
-    if run::byte(line, 1) == b'*' {
-        rooms::tell(rows, lines, gap);
+fn step(day: Day, rows: &mut [u8], lines: &mut [u8], line: &[u8]) -> Day {
+    let mut space = [0u8; 128];
+    let n = form::bytes(&mut space, line);
+    let d = opened(day, &space);
+    let n = play::least(n, &space);
+    let r = play::least(d.rows, rows);
+    let l = play::least(d.lines, lines);
+    let c = call(d.counters, &mut rows[..r], &mut lines[..l], &space[..n]);
+    Day {
+        counters: c,
+        rows: d.rows,
+        lines: d.lines,
     }
-    after
 }
 
-fn call(c: Counters, rows: &mut [u8], lines: &mut [u8], line: &[u8]) -> Counters {
-    match run::byte(line, 0) {
-        b'L' => play::list(c, rows, lines, symbol(line), number(line, 10, 11)),
-        b'R' => {
-            play::row(c, rows, lines, symbol(line));
+fn opened(day: Day, code: &[u8]) -> Day {
+    if run::byte(code, 0) == b'B' {
+        return fresh(number8(code, 1) as usize, number8(code, 9) as usize);
+    }
+    day
+}
+
+fn call(c: Counters, rows: &mut [u8], lines: &mut [u8], code: &[u8]) -> Counters {
+    match run::byte(code, 0) {
+        b'K' => counters(code),
+        b'L' => play::list(c, rows, lines, code),
+        b'D' => play::deliver(c, rows, lines, code),
+        b'B' | b'r' | b'l' | b'W' => {
+            store(rows, lines, code);
             c
         }
-        b'N' => stand(c, rows, lines, line, 2),
-        b'B' => stand(counters(line), rows, lines, line, 48),
-        _ => deliver(c, rows, lines, line),
+        _ => {
+            look(c, rows, lines, code);
+            c
+        }
     }
 }
 
-fn stand(c: Counters, rows: &[u8], lines: &[u8], line: &[u8], at: usize) -> Counters {
-    rest(line, at);
-    play::state(c, rows, lines);
-    c
-}
-
-fn deliver(c: Counters, rows: &mut [u8], lines: &mut [u8], line: &[u8]) -> Counters {
-    let letter = run::byte(line, 22);
-    let under = under(c, line);
-    let bytes = bytes(letter, line);
-    name(letter, under, line);
-    play::deliver(c, rows, lines, under, &bytes, count(letter, line))
-}
-
-fn under(c: Counters, line: &[u8]) -> u64 {
-    if run::byte(line, 0) == b'W' {
-        return c.wanted;
-    }
-    decimal(line, 10, 11)
-}
-
-fn name(letter: u8, under: u64, line: &[u8]) {
-    play::name(under, b"");
-    if letter == b'C' {
-        rest(line, 75);
-    } else {
-        rest(line, 53);
+fn counters(code: &[u8]) -> Counters {
+    Counters {
+        wanted: number8(code, 1),
+        phase: number8(code, 9),
+        rows: number8(code, 17) as usize,
+        lines: number8(code, 25) as usize,
+        taken: number8(code, 33),
     }
 }
 
-fn count(letter: u8, line: &[u8]) -> usize {
-    if run::byte(line, 0) == b'F' {
-        return decimal(line, 39, 11) as usize;
-    }
-    play::length(letter)
-}
-
-fn bytes(letter: u8, line: &[u8]) -> [u8; 67] {
-    let mut bytes = [0u8; 67];
-    message::write(record(letter, line), &mut bytes);
-    if run::byte(line, 0) == b'F' {
-        octets::number::put4(&mut bytes, 25, 2000000001);
-        return bytes;
-    }
-    bytes
-}
-
-fn record(letter: u8, line: &[u8]) -> Record {
-    let time = number(line, 23, 5);
-    let mark = run::byte(line, 29);
-    match letter {
-        b'S' => made::event(time, mark),
-        b'J' => made::summary(
-            time,
-            symbol(line),
-            number(line, 32, 7),
-            number(line, 39, 11),
-        ),
-        _ => made::trade(
-            letter,
-            time,
-            mark,
-            symbol(line),
-            sale(line, 31),
-            sale(line, 53),
-        ),
+// What changes lent bytes without a call of the book.
+fn store(rows: &mut [u8], lines: &mut [u8], code: &[u8]) {
+    match run::byte(code, 0) {
+        b'r' => rooms::paste(rows, code),
+        b'l' => rooms::paste(lines, code),
+        b'W' => play::write(rows, code),
+        _ => {
+            rooms::fill(rows, run::byte(code, 17));
+            rooms::fill(lines, run::byte(code, 17));
+        }
     }
 }
 
-fn symbol(line: &[u8]) -> [u8; 8] {
-    let mut symbol = [0u8; 8];
-    run::fill(&mut symbol, line, 2);
-    symbol
-}
-
-fn sale(line: &[u8], at: usize) -> Sale
-    requires { ⌜ at < 1000 ⌝ }
-{
-    let price = number(line, at + 1, 7);
-    let size = number(line, at + 8, 11);
-    made::sale(run::byte(line, at), price, size, run::byte(line, at + 20))
-}
-
-fn counters(line: &[u8]) -> Counters {
-    let wanted = decimal(line, 10, 11);
-    let phase = decimal(line, 21, 5);
-    let rows = decimal(line, 26, 5) as usize;
-    let lines = decimal(line, 31, 5) as usize;
-    made::counters(wanted, phase, rows, lines, decimal(line, 36, 11))
-}
-
-// The rest of a line.
-fn rest(line: &[u8], at: usize) {
-    if at < line.len() {
-        tell::words(&line[at..]);
+fn look(c: Counters, rows: &[u8], lines: &[u8], code: &[u8]) {
+    match run::byte(code, 0) {
+        b'R' => play::row(c, rows, lines, code),
+        b'T' => rooms::tell(rows, lines, b" "),
+        b't' => rooms::tell(rows, lines, b"\n "),
+        b'N' => {
+            tell::rest(code, 1);
+            play::state(c, rows, lines);
+        }
+        b'"' => {
+            tell::rest(code, 1);
+            tell::words(b"\n");
+        }
+        _ => {}
     }
-}
-
-fn number(line: &[u8], at: usize, n: usize) -> u32
-    requires { ⌜ (at < 2000) × (n < 12) ⌝ }
-{
-    (decimal(line, at, n) % 4294967296) as u32
-}
-
-// The number in n signs, spaces being zeros.
-fn decimal(line: &[u8], at: usize, n: usize) -> u64
-    requires { ⌜ (at < 2000) × (n < 12) ⌝ }
-{
-    let mut x: u64 = 0;
-    let mut i: usize = 0;
-    while i < n {
-        x = (x * 10 + tell::wide(run::byte(line, at + i) % 16)) % 100000000000;
-        i += 1;
-    }
-    x
 }

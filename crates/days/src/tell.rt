@@ -17,3 +17,10 @@ pub fn wide(x: u8) -> u64
 {
     x as u64
 }
+
+// What stands from a place on.
+pub fn rest(text: &[u8], at: usize) {
+    if at < text.len() {
+        words(&text[at..]);
+    }
+}

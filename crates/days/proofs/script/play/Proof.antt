@@ -8,10 +8,13 @@ use Rattle.days.proofs.script.play.Statement.{statement}
 use Rattle.days.proofs.script.play.Tie as tie
 
 abbrev Inv-loop : tie.InvT-loop
-Inv-loop text gap rows₀ lines₀ c₀ at₀ rows lines c at = (length rows ≡ length rows₀) × (length lines ≡ length lines₀)
+Inv-loop text rows₀ lines₀ day₀ at₀ rows lines day at = (length rows ≡ length rows₀) × (length lines ≡ length lines₀)
 
 abbrev μ-loop : tie.MeasureT-loop
-μ-loop text gap rows₀ lines₀ c₀ at₀ rows lines c at = length text - at
+μ-loop text rows₀ lines₀ day₀ at₀ rows lines day at = length text - at
+
+fresh-requires : tie.Need-fresh-requires Inv-loop μ-loop
+fresh-requires c κs = search needs
 
 loop-holds : tie.Need-loop-holds Inv-loop μ-loop
 loop-holds c = search needs
@@ -55,6 +58,7 @@ play-spec =
     (tie.spec
     Inv-loop
     μ-loop
+    fresh-requires
     loop-holds
     end-requires
     sub-step
