@@ -18,17 +18,19 @@ use Rattle.message.specs.Reading.{readOf}
 use Rattle.message.specs.declared.answer.Answer.{Answer}
 use Rattle.message.specs.declared.Record.{Record}
 use Rattle.message.proofs.Fitting.{read-fits}
-use Rattle.store.specs.declared.lines.Line.{Line}
-use Rattle.store.specs.Lines.{lineFrom, lineLimit, lineAt, noLine, lineIn, lineWith, usedLines, withLine, withDead}
-use Rattle.store.specs.Rows.{newRow, reportBytes, summaryBytes, rowLimit, isOf, noRow, rowWith, rowIn, usedRows, inRow, withRow, withReport, withSummary}
+use Rattle.lines.specs.declared.Line.{Line}
+use Rattle.lines.specs.Lines.{lineFrom, lineLimit, lineAt, noLine, lineIn, lineWith, usedLines, withLine, withDead}
+use Rattle.rows.specs.Rows.{newRow, reportBytes, summaryBytes, rowLimit, isOf, noRow, rowWith, rowIn, usedRows, inRow, withRow, withReport, withSummary}
 use Rattle.walk.specs.Figures.{figuresOf}
-use Rattle.store.specs.Changed.{LineFits}
-use Rattle.store.specs.declared.Found.{Found}
-use Rattle.store.specs.declared.Found.the-variants.{Nothing, At}
-use Rattle.store.specs.declared.rows.Row.{Row}
+use Rattle.lines.specs.Changed.{LineFits}
+use Rattle.cells.specs.declared.Found.{Found}
+use Rattle.cells.specs.declared.Found.the-variants.{Nothing, At}
+use Rattle.rows.specs.declared.Row.{Row}
 use Rattle.walk.specs.declared.Figures.{Figures}
 use Rattle.walk.specs.Meaning.{Are}
-use Rattle.store.proofs.Slabs.{found-below, used-rows-length, row-in, line-length, dead-length, row-length, line-touches, dead-touches, row-touches, new-row-length, report-length, summary-length}
+use Rattle.cells.proofs.Slabs.{found-below}
+use Rattle.lines.proofs.Slabs.{line-length, dead-length, line-touches, dead-touches}
+use Rattle.rows.proofs.Slabs.{used-rows-length, row-in, row-length, row-touches, new-row-length, report-length, summary-length}
 use Rattle.walk.proofs.Meaning.{figures-are, volume-fits}
 use Rattle.book.specs.declared.counters.Counters.{Counters}
 use Rattle.book.specs.Counting.{usedUp, sound, Unsound}

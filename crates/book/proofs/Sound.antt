@@ -6,8 +6,8 @@ use mathlib.Core.Logic.{_↔_, _⊎_, inl, inr}
 use mathlib.Core.Bool.{Bool, true, false, _&&_, and-eq-true-iff}
 use native.Mathlib.Omega.{arith}
 use borrow.Author.Tests.{leb-true, leb-false}
-use Rattle.store.specs.Lines.{lineLimit}
-use Rattle.store.specs.Rows.{rowLimit}
+use Rattle.lines.specs.Lines.{lineLimit}
+use Rattle.rows.specs.Rows.{rowLimit}
 use Rattle.book.specs.declared.counters.Counters.{Counters}
 use Rattle.book.specs.Counting.{Unsound, sound}
 

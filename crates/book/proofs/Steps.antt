@@ -13,11 +13,11 @@ use Rattle.message.specs.Answers.{numberOf, answerOf}
 use Rattle.message.specs.declared.answer.Answer.{Answer}
 use Rattle.message.specs.declared.Reading.{Reading}
 use Rattle.message.specs.Reading.{readOf}
-use Rattle.store.specs.declared.Found.the-variants.{Nothing, At}
-use Rattle.store.specs.declared.rows.Row.{Row}
+use Rattle.cells.specs.declared.Found.the-variants.{Nothing, At}
+use Rattle.rows.specs.declared.Row.{Row}
 use Rattle.walk.specs.declared.Figures.{Figures}
-use Rattle.store.specs.Lines.{usedLines, lineLimit, lineWith}
-use Rattle.store.specs.Rows.{usedRows, rowLimit, rowWith, rowIn, withRow}
+use Rattle.lines.specs.Lines.{usedLines, lineLimit, lineWith}
+use Rattle.rows.specs.Rows.{usedRows, rowLimit, rowWith, rowIn, withRow}
 use Rattle.walk.specs.Figures.{figuresOf}
 use Rattle.book.specs.declared.counters.Counters.{Counters}
 use Rattle.book.specs.declared.Said.{Said}

@@ -8,8 +8,8 @@ use lib.ListN.{length}
 use Rattle.message.specs.Answers.{answerOf}
 use Rattle.message.specs.Reading.{readOf}
 use Rattle.message.specs.declared.Reading.{Reading}
-use Rattle.store.specs.Lines.{usedLines, lineLimit, lineWith}
-use Rattle.store.specs.Rows.{usedRows, rowLimit, rowWith, rowIn, withRow}
+use Rattle.lines.specs.Lines.{usedLines, lineLimit, lineWith}
+use Rattle.rows.specs.Rows.{usedRows, rowLimit, rowWith, rowIn, withRow}
 use Rattle.walk.specs.Figures.{figuresOf}
 use Rattle.book.specs.declared.counters.Counters.{Counters}
 use Rattle.book.specs.declared.Said.{Said}

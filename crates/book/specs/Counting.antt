@@ -6,8 +6,8 @@ use mathlib.Core.Bool.{Bool, cond, _&&_}
 use lib.Dec.{leb}
 use Rattle.message.specs.declared.Record.{Record}
 use Rattle.table.specs.Messages.{isEvent, makesNew, phaseOf}
-use Rattle.store.specs.Lines.{lineLimit}
-use Rattle.store.specs.Rows.{rowLimit}
+use Rattle.lines.specs.Lines.{lineLimit}
+use Rattle.rows.specs.Rows.{rowLimit}
 use Rattle.book.specs.declared.counters.Counters.{Counters}
 
 -- what a book starts from

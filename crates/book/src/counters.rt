@@ -1,8 +1,6 @@
 // The counters' moves, each returning the new value.
 use message::Record;
 use message::answer::Answer;
-use store::lines;
-use store::rows;
 use table::judge::phase_of;
 ghost use mathlib.Core.Path.{_≡_};
 ghost use Prim.Native.Nat.{_+_, _<_, _^_};

@@ -2,12 +2,11 @@
 // refused one leaves every lent byte as it was.
 pub mod counters;
 
+use cells::Found;
 use counters::Counters;
 use message::answer;
 use message::answer::Answer;
 use show::RowShown;
-use store::Found;
-use store::rows;
 use table::judge::judge;
 use table::take::take_lines;
 use table::take::take_rows;

@@ -17,10 +17,10 @@ use denote.Triple.Clauses.{AtExit}
 use denote.Ref.{now}
 use Rattle.octets.specs.Run.{Bytes, tab}
 use Rattle.message.specs.Answers.{answerOf}
-use Rattle.store.specs.declared.lines.Line.{Line}
-use Rattle.store.specs.Lines.{lineLimit, usedLines}
-use Rattle.store.specs.Rows.{rowLimit, usedRows}
-use Rattle.store.specs.Changed.{listedRow}
+use Rattle.lines.specs.declared.Line.{Line}
+use Rattle.lines.specs.Lines.{lineLimit, usedLines}
+use Rattle.rows.specs.Rows.{rowLimit, usedRows}
+use Rattle.rows.specs.Changed.{listedRow}
 use Rattle.table.specs.Table.{Case, lowest, inBook, listed, listTable, symbolsOf}
 use Rattle.table.proofs.Tables.{Wanted}
 use Rattle.book.specs.declared.counters.Counters.{Counters}
@@ -28,7 +28,7 @@ use Rattle.book.specs.declared.Said.{Said}
 use Rattle.book.specs.declared.Shown.{Shown}
 use Rattle.book.specs.Counting.{freshCounters, sound}
 use Rattle.show.specs.Showing.{nothingShown}
-use Rattle.book.specs.Calls.{listAnswer, listSaid, listRows, deliverSaid, deliverRows, deliverLines, rowShown}
+use Rattle.book.specs.Calls.{listAnswer, listSaid, listRows, deliverSaid, rowShown}
 use Rattle.book.proofs.Demand1.{refused-keeps, touches-only}
 use Rattle.book.proofs.fresh.Reads as fresh-reads
 use Rattle.book.proofs.list as list

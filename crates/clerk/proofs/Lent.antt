@@ -13,8 +13,8 @@ use Rattle.message.specs.declared.Sale.{Sale}
 use Rattle.message.specs.declared.Record.{Record}
 use Rattle.message.specs.declared.Reading.{Reading}
 use Rattle.message.specs.Reading.{noSale, noRecord, saleAt, fieldsS, fieldsTrade, fieldsT, fieldsC, fieldsJ, fieldsOf, lawfulOf, refusedOf, acceptedOf, judgedOf, misshapen, readOf}
-use Rattle.store.specs.declared.lines.Line.{Line}
-use Rattle.store.specs.Lines.{lineLimit, lineBytes, mark, usedLines, lineWith, lineIn, withLine, withDead}
+use Rattle.lines.specs.declared.Line.{Line}
+use Rattle.lines.specs.Lines.{lineLimit, lineBytes, mark, usedLines, lineWith, lineIn, withLine, withDead}
 use Rattle.table.specs.Messages.{isTrade, isCancel, isCorrection, oldKey, newSale}
 use Rattle.table.specs.Taking.{madeLine, correctedLine, linesBy, indexOf}
 use Rattle.book.specs.declared.counters.Counters.{Counters}

@@ -8,12 +8,12 @@ use borrow.Author.Tests.{not-false}
 use lib.ListN.{getD}
 use Rattle.octets.specs.Run.{same}
 use Rattle.octets.proofs.Trips.{same-is}
-use Rattle.store.specs.declared.Found.{Found}
-use Rattle.store.specs.declared.Found.the-variants.{Nothing, At}
-use Rattle.store.specs.declared.lines.Line.{Line}
-use Rattle.store.specs.Search.{first}
-use Rattle.store.specs.Lines.{bears, lineWith, noLine}
-use Rattle.store.specs.Changed.{dead}
+use Rattle.cells.specs.declared.Found.{Found}
+use Rattle.cells.specs.declared.Found.the-variants.{Nothing, At}
+use Rattle.lines.specs.declared.Line.{Line}
+use Rattle.cells.specs.Search.{first}
+use Rattle.lines.specs.Lines.{bears, lineWith, noLine}
+use Rattle.lines.specs.Changed.{dead}
 use Rattle.table.specs.Table.{isFound, borne, deadAt, listed}
 use Rattle.table.proofs.Tables.{neither, found-counted}
 use Rattle.clerk.specs.Steps.{lineFound, killFound}

@@ -10,7 +10,7 @@ use borrow.Author.Tests.{not-true}
 use Rattle.octets.specs.Run.{same}
 use Rattle.octets.proofs.Trips.{same-is}
 use Rattle.message.specs.declared.Record.{Record}
-use Rattle.store.specs.declared.lines.Line.{Line}
+use Rattle.lines.specs.declared.Line.{Line}
 use Rattle.table.specs.Messages.{namesOld, makesNew, oldKey, newKey}
 use Rattle.table.specs.Table.{listed}
 use Rattle.walk.specs.declared.Figures.{Figures}

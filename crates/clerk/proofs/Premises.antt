@@ -7,11 +7,10 @@ use mathlib.Core.Path.{_≡_, refl, sym, ap, subst, _∙_}
 use mathlib.Core.List.{List}
 use native.Mathlib.Omega.{arith}
 use borrow.Author.Tests.{eq-eqb}
-use lib.Dec.{eqb}
 use lib.ListN.{length}
 use Rattle.book.specs.declared.counters.Counters.{Counters}
 use Rattle.book.proofs.Sound.{sound-gives}
-use Rattle.store.specs.Rows.{rowLimit}
+use Rattle.rows.specs.Rows.{rowLimit}
 use Rattle.clerk.specs.Clerk.{Listing, sheetOf}
 use Rattle.clerk.specs.Arrivals.{run, Largest, Arrival, numbers}
 use Rattle.clerk.specs.Premises.{Breaks, begun}

@@ -13,16 +13,17 @@ use Rattle.octets.specs.Run.{same}
 use Rattle.octets.proofs.Trips.{same-is}
 use Rattle.message.specs.Reading.{readOf}
 use Rattle.message.specs.declared.Record.{Record}
-use Rattle.store.specs.declared.Found.{Found}
-use Rattle.store.specs.declared.Found.the-variants.{Nothing, At}
-use Rattle.store.specs.declared.lines.Line.{Line}
-use Rattle.store.specs.declared.rows.Row.{Row}
-use Rattle.store.specs.Search.{first}
-use Rattle.store.specs.Lines.{lineWith}
-use Rattle.store.specs.Rows.{isOf, rowWith}
-use Rattle.store.specs.Changed.{dead, listedRow}
+use Rattle.cells.specs.declared.Found.{Found}
+use Rattle.cells.specs.declared.Found.the-variants.{Nothing, At}
+use Rattle.lines.specs.declared.Line.{Line}
+use Rattle.rows.specs.declared.Row.{Row}
+use Rattle.cells.specs.Search.{first}
+use Rattle.lines.specs.Lines.{lineWith}
+use Rattle.rows.specs.Rows.{isOf, rowWith}
+use Rattle.lines.specs.Changed.{dead}
+use Rattle.rows.specs.Changed.{listedRow}
 use Rattle.table.specs.Messages.{isEvent, isSummary, namesOld, makesNew, phaseOf, oldKey, newKey, newSale}
-use Rattle.table.specs.Table.{lowest, listed, symbolsOf, contentTable, listTable}
+use Rattle.table.specs.Table.{lowest, listed, symbolsOf, listTable}
 use Rattle.table.specs.Taking.{madeLine, correctedLine}
 use Rattle.clerk.specs.Steps.{Book, lineFound, killFound, linesAfter, kept, keepFound, rowsAfter, taking, usingUp, content, after}
 use Rattle.clerk.specs.Clerk.{Listing, symbolsIn, sheetFrom, Taken, phaseAfter, Origin, originOf, names, trade, made, tradesBut, tradesOf, answerTo, takenOf, summaryOf, reportedOf, rowOf, bookBy, clerkBook}

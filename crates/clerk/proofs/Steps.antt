@@ -16,14 +16,17 @@ use Rattle.message.specs.Fits.{RecordFits}
 use Rattle.message.specs.Reading.{readOf}
 use Rattle.message.specs.declared.Record.{Record}
 use Rattle.message.proofs.Fitting.{read-fits}
-use Rattle.store.specs.declared.Found.{Found}
-use Rattle.store.specs.declared.Found.the-variants.{Nothing, At}
-use Rattle.store.specs.declared.lines.Line.{Line}
-use Rattle.store.specs.declared.rows.Row.{Row}
-use Rattle.store.specs.Lines.{lineLimit, usedLines, bears, lineWith, noLine, lineIn, withLine, withDead}
-use Rattle.store.specs.Rows.{rowLimit, usedRows, isOf, rowWith, noRow, withRow, withReport, withSummary}
-use Rattle.store.specs.Changed.{dead, listedRow, reporting, summarised}
-use Rattle.store.proofs.Slabs.{lines-put, lines-kill, line-in, dead-length, used-lines-length, rows-put, rows-report, rows-summary, row-length, used-rows-length, found-below}
+use Rattle.cells.specs.declared.Found.{Found}
+use Rattle.cells.specs.declared.Found.the-variants.{Nothing, At}
+use Rattle.lines.specs.declared.Line.{Line}
+use Rattle.rows.specs.declared.Row.{Row}
+use Rattle.lines.specs.Lines.{lineLimit, usedLines, bears, lineWith, noLine, lineIn, withLine, withDead}
+use Rattle.rows.specs.Rows.{rowLimit, usedRows, isOf, rowWith, noRow, withRow, withReport, withSummary}
+use Rattle.lines.specs.Changed.{dead}
+use Rattle.rows.specs.Changed.{listedRow, reporting, summarised}
+use Rattle.cells.proofs.Slabs.{found-below}
+use Rattle.lines.proofs.Slabs.{lines-put, lines-kill, line-in, dead-length, used-lines-length}
+use Rattle.rows.proofs.Slabs.{rows-put, rows-report, rows-summary, row-length, used-rows-length}
 use Rattle.table.specs.Messages.{isEvent, isCorrection, isSummary, namesOld, makesNew, phaseOf, oldKey}
 use Rattle.table.specs.Table.{Case, symbolsOf, isFound, listed, lowest, numberTable, listTable}
 use Rattle.table.specs.Taking.{madeLine, correctedLine, linesBy, rowsBy, indexOf}

@@ -11,12 +11,12 @@ use Rattle.octets.specs.Run.{same}
 use Rattle.octets.proofs.Trips.{same-is}
 use Rattle.message.specs.Answers.{answerOf}
 use Rattle.message.specs.declared.answer.Answer.{Answer}
-use Rattle.store.specs.declared.Found.{Found}
-use Rattle.store.specs.declared.Found.the-variants.{Nothing, At}
-use Rattle.store.specs.declared.lines.Line.{Line}
-use Rattle.store.specs.declared.rows.Row.{Row}
-use Rattle.store.specs.Lines.{usedLines}
-use Rattle.store.specs.Rows.{usedRows, isOf, rowWith, noRow}
+use Rattle.cells.specs.declared.Found.{Found}
+use Rattle.cells.specs.declared.Found.the-variants.{Nothing, At}
+use Rattle.lines.specs.declared.Line.{Line}
+use Rattle.rows.specs.declared.Row.{Row}
+use Rattle.lines.specs.Lines.{usedLines}
+use Rattle.rows.specs.Rows.{usedRows, isOf, rowWith, noRow}
 use Rattle.table.specs.Table.{symbolsOf, listed}
 use Rattle.walk.specs.Meaning.{Are}
 use Rattle.book.specs.declared.counters.Counters.{Counters}

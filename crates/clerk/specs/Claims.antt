@@ -7,7 +7,7 @@ use mathlib.Core.List.{List, [], _∷_, _++_, map}
 use mathlib.Core.Bool.{true, false}
 use Rattle.message.specs.Answers.{answerOf}
 use Rattle.message.specs.declared.answer.Answer.{Answer}
-use Rattle.store.specs.declared.lines.Line.{Line}
+use Rattle.lines.specs.declared.Line.{Line}
 use Rattle.table.specs.Messages.{makesNew, newKey}
 use Rattle.table.specs.Table.{listed}
 use Rattle.clerk.specs.Clerk.{Listing, Taken, names, originOf, trade, answerTo, takenOf}

@@ -9,12 +9,12 @@ use lib.ListN.{length}
 use Rattle.octets.specs.Run.{same}
 use Rattle.message.specs.Reading.{readOf}
 use Rattle.message.specs.declared.Record.{Record}
-use Rattle.store.specs.declared.lines.Line.{Line}
-use Rattle.store.specs.declared.rows.Row.{Row}
-use Rattle.store.specs.declared.rows.Summary.{Summary}
-use Rattle.store.specs.declared.rows.Summary.the-variants.{NoSummary, HighLow}
-use Rattle.store.specs.declared.rows.Reported.{Reported}
-use Rattle.store.specs.declared.rows.Reported.the-variants.{NotSet, Volume}
+use Rattle.lines.specs.declared.Line.{Line}
+use Rattle.rows.specs.declared.Row.{Row}
+use Rattle.rows.specs.declared.Summary.{Summary}
+use Rattle.rows.specs.declared.Summary.the-variants.{NoSummary, HighLow}
+use Rattle.rows.specs.declared.Reported.{Reported}
+use Rattle.rows.specs.declared.Reported.the-variants.{NotSet, Volume}
 use Rattle.walk.specs.Figures.{figuresOf}
 use Rattle.table.specs.Messages.{isEvent, isCorrection, isSummary, namesOld, makesNew, phaseOf, oldKey, newKey, newSale}
 use Rattle.table.specs.Table.{lowest, listed, contentTable, listTable}

@@ -10,10 +10,10 @@ use lib.IntN.{pos, negsuc}
 use lib.ListN.{getD, replicate}
 use Rattle.octets.specs.Number.{digits}
 use Rattle.message.specs.Answers.{numberOf}
-use Rattle.store.specs.Lines.{lineLimit}
-use Rattle.store.specs.Rows.{rowLimit}
-use Rattle.store.specs.declared.rows.Reported.{Reported}
-use Rattle.store.specs.declared.rows.Reported.the-variants.{NotSet, Volume}
+use Rattle.lines.specs.Lines.{lineLimit}
+use Rattle.rows.specs.Rows.{rowLimit}
+use Rattle.rows.specs.declared.Reported.{Reported}
+use Rattle.rows.specs.declared.Reported.the-variants.{NotSet, Volume}
 use Rattle.walk.specs.declared.Price.{Price}
 use Rattle.walk.specs.declared.Price.the-variants.{Absent, Of}
 use Rattle.show.specs.declared.Net.{Net}
@@ -27,9 +27,9 @@ use Rattle.octets.specs.Number as Number
 use Rattle.octets.specs.Text as Text
 use Rattle.sheet.specs.Sheet as Sheet
 use Rattle.message.specs.Reading as Reading
-use Rattle.store.specs.Search as Search
-use Rattle.store.specs.Lines as Lines
-use Rattle.store.specs.Rows as Rows
+use Rattle.cells.specs.Search as Search
+use Rattle.lines.specs.Lines as Lines
+use Rattle.rows.specs.Rows as Rows
 use Rattle.walk.specs.Figures as Figures
 use Rattle.show.specs.Showing as Showing
 use Rattle.table.specs.Messages as Messages

@@ -6,8 +6,8 @@ use Prim.Native.Nat.{ℕ, _≤_}
 use mathlib.Core.Path.{_≡_}
 use mathlib.Core.List.{List, [], _∷_}
 use lib.ListN.{replicate}
-use Rattle.store.specs.Lines.{lineLimit}
-use Rattle.store.specs.Rows.{rowLimit}
+use Rattle.lines.specs.Lines.{lineLimit}
+use Rattle.rows.specs.Rows.{rowLimit}
 use Rattle.book.specs.Counting.{freshCounters, usedUp}
 use Rattle.book.specs.Calls.{listSaid, deliverSaid}
 use Rattle.clerk.specs.Steps.{Book}

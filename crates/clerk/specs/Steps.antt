@@ -7,13 +7,14 @@ use lib.Dec.{eqb}
 use lib.ListN.{getD, set}
 use Rattle.message.specs.Reading.{readOf}
 use Rattle.message.specs.declared.Record.{Record}
-use Rattle.store.specs.declared.Found.{Found}
-use Rattle.store.specs.declared.Found.the-variants.{Nothing, At}
-use Rattle.store.specs.declared.lines.Line.{Line}
-use Rattle.store.specs.declared.rows.Row.{Row}
-use Rattle.store.specs.Lines.{lineWith, noLine, usedLines}
-use Rattle.store.specs.Rows.{rowWith, noRow, usedRows}
-use Rattle.store.specs.Changed.{dead, listedRow, reporting, summarised}
+use Rattle.cells.specs.declared.Found.{Found}
+use Rattle.cells.specs.declared.Found.the-variants.{Nothing, At}
+use Rattle.lines.specs.declared.Line.{Line}
+use Rattle.rows.specs.declared.Row.{Row}
+use Rattle.lines.specs.Lines.{lineWith, noLine, usedLines}
+use Rattle.rows.specs.Rows.{rowWith, noRow, usedRows}
+use Rattle.lines.specs.Changed.{dead}
+use Rattle.rows.specs.Changed.{listedRow, reporting, summarised}
 use Rattle.table.specs.Messages.{isEvent, isTrade, isCancel, isCorrection, isSummary, makesNew, phaseOf, oldKey}
 use Rattle.table.specs.Table.{lowest, symbolsOf, numberTable, contentTable, listTable}
 use Rattle.table.specs.Taking.{madeLine, correctedLine}

@@ -8,9 +8,9 @@ use message::answer;
 use octets::number::number4;
 use octets::number::number8;
 use octets::run;
+use rows::Reported;
 use show::Net;
 use show::RowShown;
-use store::rows::Reported;
 use walk::Price;
 ghost use Rattle.io.specs.Counts.{Counts};
 

@@ -12,9 +12,8 @@ use lib.Seq.{sets, length-take-le, take-length, take-all, drop-append-le}
 use Rattle.octets.specs.Run.{part}
 use Rattle.octets.proofs.Trips.{here}
 use Rattle.tape.specs.declared.Played.{Played}
-use Rattle.tape.specs.Playing.{State, play, played, Held, feed}
+use Rattle.tape.specs.Playing.{State, played}
 use Rattle.tape.proofs.Pieces.{played-within}
-use Rattle.feed.specs.declared.Fed.{Fed}
 use Rattle.feed.specs.Feeding.{leftOver, fedOf, keptIn}
 
 -- the first n of a list, or all where it has fewer

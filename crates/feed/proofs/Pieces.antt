@@ -2,11 +2,11 @@
 -- played twice.
 -- Assumes nothing.
 use Prim.Native.Nat.{ℕ, _+_, _≤_}
-use mathlib.Core.Path.{_≡_, refl, ap, sym, _∙_}
+use mathlib.Core.Path.{_≡_, ap, _∙_}
 use mathlib.Core.List.{List, _++_}
 use native.Mathlib.Omega.{arith}
 use lib.ListN.{length, take, drop, length-take, length-drop}
-use lib.Seq.{sets, take-append-seam}
+use lib.Seq.{take-append-seam}
 use Rattle.octets.proofs.Laws.{sets-front}
 use Rattle.tape.specs.declared.Stop.the-variants.{NoKind}
 use Rattle.tape.specs.Playing.{State, played, playRows, playLines, Held, feed}

@@ -1,9 +1,9 @@
 // A tape of any length, played in pieces as they come: what a piece leaves over is moved to its front, and the next is read
 // behind it.
 use book::counters::Counters;
+use octets::number::lesser;
 use octets::run::to_front;
 use tape::Stop;
-ghost use Prim.Native.Nat.{min};
 ghost use mathlib.Core.Path.{_≡_};
 ghost use lib.ListN.{take};
 ghost use Rattle.tape.specs.Playing.{stateOf, playRows, playLines};
@@ -18,12 +18,6 @@ pub struct Fed {
     pub stop: Stop,
 }
 
-fn least(n: usize, k: usize) -> usize
-    ensures { λ r. ⌜ r ≡ min n k ⌝ }
-{
-    if n < k { n } else { k }
-}
-
 // Plays the first n bytes of a piece, or all where it has fewer.
 pub fn feed(c: Counters, rows: &mut [u8], lines: &mut [u8], piece: &mut [u8], n: usize) -> Fed
     ensures said { λ r. ⌜ r ≡ fedOf (stateOf c (now (rows .entry)) (now (lines .entry))) n (now (piece .entry)) ⌝ }
@@ -31,7 +25,7 @@ pub fn feed(c: Counters, rows: &mut [u8], lines: &mut [u8], piece: &mut [u8], n:
     ensures lines { λ r. ⌜ now (lines .exit) ≡ playLines (stateOf c (now (rows .entry)) (now (lines .entry))) (take n (now (piece .entry))) ⌝ }
     ensures piece { λ r. ⌜ now (piece .exit) ≡ keptIn (stateOf c (now (rows .entry)) (now (lines .entry))) n (now (piece .entry)) ⌝ }
 {
-    let k = least(n, piece.len());
+    let k = lesser(n, piece.len());
     let p = tape::play(c, rows, lines, &piece[..k]);
     let after = p.counters;
     let used = p.used;

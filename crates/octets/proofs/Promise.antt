@@ -46,6 +46,7 @@ use Rattle.octets.proofs.text.is_all.Kinds as is-all-kinds
 use Rattle.octets.proofs.text.is_text as is-text
 use Rattle.octets.proofs.text.is_text.Reads as is-text-reads
 use Rattle.octets.proofs.text.is_text.Kinds as is-text-kinds
+use Rattle.octets.proofs.number.lesser.Reads as lesser-reads
 
 pub byte-one : (κs : Lfts 1) (a : ArgsD byte.signature κs) (r r′ : ℕ) (s s′ : AtExit (endedOf 1 byte-kinds.ps byte-kinds.r) κs)
     → byte-reads.Learnt κs a r s → byte-reads.Learnt κs a r′ s′ → r ≡ r′
@@ -94,3 +95,6 @@ is-all-one κs a r r′ s s′ h h′ = h ∙ sym h′
 pub is-text-one : (κs : Lfts 1) (a : ArgsD is-text.signature κs) (r r′ : Bool) (s s′ : AtExit (endedOf 1 is-text-kinds.ps is-text-kinds.r) κs)
     → is-text-reads.Learnt κs a r s → is-text-reads.Learnt κs a r′ s′ → r ≡ r′
 is-text-one κs a r r′ s s′ h h′ = h ∙ sym h′
+
+pub lesser-one : (a b a₁ b₁ a₂ b₂ : ℕ) (r r′ : ℕ) → lesser-reads.Learnt tt (a, (b, tt)) r (a₁, (b₁, tt)) → lesser-reads.Learnt tt (a, (b, tt)) r′ (a₂, (b₂, tt)) → r ≡ r′
+lesser-one a b a₁ b₁ a₂ b₂ r r′ h h′ = h ∙ sym h′

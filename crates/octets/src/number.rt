@@ -2,7 +2,7 @@
 use crate::run::byte_past;
 use crate::run::put_past;
 ghost use mathlib.Core.Path.{_≡_};
-ghost use Prim.Native.Nat.{_<_, _≤_};
+ghost use Prim.Native.Nat.{_<_, _≤_, min};
 ghost use lib.Seq.{sets};
 ghost use Rattle.octets.specs.Run.{part};
 ghost use Rattle.octets.specs.Number.{be, digits};
@@ -62,4 +62,11 @@ pub fn put8(out: &mut [u8], at: usize, x: u64)
     ensures { λ _. ⌜ now (out .exit) ≡ sets (now (out .entry)) at (digits 8 x) ⌝ }
 {
     put(out, at, 8, x);
+}
+
+// The lesser of two.
+pub fn lesser(a: usize, b: usize) -> usize
+    ensures { λ r. ⌜ r ≡ min a b ⌝ }
+{
+    if a < b { a } else { b }
 }

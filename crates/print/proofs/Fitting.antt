@@ -15,10 +15,10 @@ use Rattle.show.specs.declared.Net.{Net}
 use Rattle.show.specs.declared.Net.the-variants.{NoNet, Amount}
 use Rattle.show.proofs.Net as net
 use Rattle.show.proofs.Net.Laws as net-laws
-use Rattle.store.specs.declared.rows.Reported.{Reported}
-use Rattle.store.specs.declared.rows.Reported.the-variants.{NotSet, Volume}
-use Rattle.store.proofs.rows.Reported as reported
-use Rattle.store.proofs.rows.Reported.Laws as reported-laws
+use Rattle.rows.specs.declared.Reported.{Reported}
+use Rattle.rows.specs.declared.Reported.the-variants.{NotSet, Volume}
+use Rattle.rows.proofs.Reported as reported
+use Rattle.rows.proofs.Reported.Laws as reported-laws
 use Rattle.print.specs.Fits.{PriceFits, NetFits, ReportedFits}
 
 price-told : (p : Price) → Fields (variants price.the-type) (spellss (price.the-type .parts) price-laws.the-laws) (price.the-type .to p) → PriceFits p

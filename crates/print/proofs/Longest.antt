@@ -9,8 +9,8 @@ use borrow.Author.Tests.{ltb-true, ltb-false}
 use lib.Dec.{ltb, lit<}
 use lib.IntN.{negsuc}
 use lib.ListN.{length, length-append}
-use Rattle.store.specs.declared.rows.Reported.{Reported}
-use Rattle.store.specs.declared.rows.Reported.the-variants.{NotSet, Volume}
+use Rattle.rows.specs.declared.Reported.{Reported}
+use Rattle.rows.specs.declared.Reported.the-variants.{NotSet, Volume}
 use Rattle.walk.specs.declared.Price.{Price}
 use Rattle.walk.specs.declared.Price.the-variants.{Absent, Of}
 use Rattle.show.specs.declared.Net.{Net}

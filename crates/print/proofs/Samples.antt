@@ -6,8 +6,8 @@ use mathlib.Core.List.{List, [], _∷_, _++_}
 use Prim.Native.Nat.{ℕ}
 use Prim.Native.String.{String}
 use lib.IntN.{pos, negsuc}
-use Rattle.store.specs.declared.rows.Reported.{Reported}
-use Rattle.store.specs.declared.rows.Reported.the-variants.{NotSet, Volume}
+use Rattle.rows.specs.declared.Reported.{Reported}
+use Rattle.rows.specs.declared.Reported.the-variants.{NotSet, Volume}
 use Rattle.walk.specs.declared.Price.{Price}
 use Rattle.walk.specs.declared.Price.the-variants.{Absent, Of}
 use Rattle.show.specs.declared.Net.{Net}

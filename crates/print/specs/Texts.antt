@@ -9,8 +9,8 @@ use Rattle.octets.specs.Text.{all}
 use Rattle.decimal.specs.Letters.{letters}
 use Rattle.decimal.specs.Decimal.{decimal}
 use Rattle.decimal.specs.Amount.{amountText, signedText}
-use Rattle.store.specs.declared.rows.Reported.{Reported}
-use Rattle.store.specs.declared.rows.Reported.the-variants.{NotSet, Volume}
+use Rattle.rows.specs.declared.Reported.{Reported}
+use Rattle.rows.specs.declared.Reported.the-variants.{NotSet, Volume}
 use Rattle.walk.specs.declared.Price.{Price}
 use Rattle.walk.specs.declared.Price.the-variants.{Absent, Of}
 use Rattle.show.specs.declared.Net.{Net}

@@ -1,8 +1,8 @@
 // The figures of a row, each behind one space, and named counts.
 use octets::run::paste;
 use octets::run::put_byte;
+use rows::Reported;
 use show::Net;
-use store::rows::Reported;
 use walk::Price;
 ghost use Prim.Native.Nat.{_≤_};
 ghost use mathlib.Core.List.{_∷_, _++_};

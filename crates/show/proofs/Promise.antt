@@ -3,7 +3,7 @@
 -- the call returns.
 -- Assumes nothing.
 use mathlib.Core.Path.{_≡_, sym, _∙_}
-use Rattle.store.specs.declared.rows.Row.{Row}
+use Rattle.rows.specs.declared.Row.{Row}
 use Rattle.walk.specs.declared.Figures.{Figures}
 use Rattle.show.specs.declared.RowShown.{RowShown}
 use Rattle.show.proofs.nothing.Reads as nothing-reads

@@ -5,10 +5,10 @@ use mathlib.Core.Bool.{Bool, false, cond, _&&_}
 use lib.Dec.{eqb}
 use lib.IntN.{pos, _-ℤ_}
 use lib.ListN.{replicate}
-use Rattle.store.specs.declared.rows.Row.{Row}
-use Rattle.store.specs.declared.rows.Summary.{Summary}
-use Rattle.store.specs.declared.rows.Summary.the-variants.{NoSummary, HighLow}
-use Rattle.store.specs.declared.rows.Reported.the-variants.{NotSet}
+use Rattle.rows.specs.declared.Row.{Row}
+use Rattle.rows.specs.declared.Summary.{Summary}
+use Rattle.rows.specs.declared.Summary.the-variants.{NoSummary, HighLow}
+use Rattle.rows.specs.declared.Reported.the-variants.{NotSet}
 use Rattle.walk.specs.declared.Price.{Price}
 use Rattle.walk.specs.declared.Price.the-variants.{Absent, Of}
 use Rattle.walk.specs.declared.Last.{Last}

@@ -1,7 +1,7 @@
 // A row as it is read: what is kept in it and the figures of its symbol's live lines.
-use store::rows::Reported;
-use store::rows::Row;
-use store::rows::Summary;
+use rows::Reported;
+use rows::Row;
+use rows::Summary;
 use walk::Figures;
 use walk::Last;
 use walk::Price;

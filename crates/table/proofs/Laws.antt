@@ -15,10 +15,11 @@ use Rattle.octets.proofs.Trips.{whole}
 use Rattle.message.specs.Answers.{numberOf, answerOf}
 use Rattle.message.specs.declared.answer.Answer.{Answer}
 use Rattle.message.specs.declared.Record.{Record}
-use Rattle.store.specs.declared.lines.Line.{Line}
-use Rattle.store.specs.declared.Found.the-variants.{Nothing, At}
-use Rattle.store.specs.Lines.{usedLines, lineLimit, lineWith, bears, lineIn, noLine, withLine, withDead}
-use Rattle.store.proofs.Slabs.{found-below, used-lines-length, line-in}
+use Rattle.lines.specs.declared.Line.{Line}
+use Rattle.cells.specs.declared.Found.the-variants.{Nothing, At}
+use Rattle.lines.specs.Lines.{usedLines, lineLimit, lineWith, bears, lineIn, noLine, withLine, withDead}
+use Rattle.cells.proofs.Slabs.{found-below}
+use Rattle.lines.proofs.Slabs.{used-lines-length, line-in}
 use Rattle.table.specs.Messages.{isTrade, isCancel, isCorrection, makesNew, oldKey, newKey, matches}
 use Rattle.table.specs.Taking.{correctedLine, linesBy}
 use Rattle.table.specs.Working.{plainly, naming, namedBy, madeBy, thenMade}

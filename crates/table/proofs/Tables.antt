@@ -17,14 +17,15 @@ use Rattle.message.specs.declared.Record.{Record}
 use Rattle.message.specs.declared.Reading.{Reading}
 use Rattle.message.proofs.Said.{Said, unshaped, unkept, obeyed, said}
 use Rattle.message.proofs.Promise.{one-number-each}
-use Rattle.store.specs.declared.Found.{Found}
-use Rattle.store.specs.declared.Found.the-variants.{Nothing, At}
-use Rattle.store.specs.declared.lines.Line.{Line}
-use Rattle.store.specs.declared.rows.Row.{Row}
-use Rattle.store.specs.Search.{first}
-use Rattle.store.specs.Lines.{lineLimit, usedLines, lineWith, noLine}
-use Rattle.store.specs.Rows.{rowLimit, usedRows, isOf, rowWith}
-use Rattle.store.proofs.Slabs.{used-lines-length, used-rows-length}
+use Rattle.cells.specs.declared.Found.{Found}
+use Rattle.cells.specs.declared.Found.the-variants.{Nothing, At}
+use Rattle.lines.specs.declared.Line.{Line}
+use Rattle.rows.specs.declared.Row.{Row}
+use Rattle.cells.specs.Search.{first}
+use Rattle.lines.specs.Lines.{lineLimit, usedLines, lineWith, noLine}
+use Rattle.rows.specs.Rows.{rowLimit, usedRows, isOf, rowWith}
+use Rattle.lines.proofs.Slabs.{used-lines-length}
+use Rattle.rows.proofs.Slabs.{used-rows-length}
 use Rattle.table.specs.declared.judge.Verdict.{Verdict}
 use Rattle.table.specs.Messages.{isEvent, namesOld, makesNew, trading, due, phaseOf, oldKey, newKey, matches}
 use Rattle.table.specs.Table.{Case, says, lowest, inBook, isFound, borne, deadAt, differsAt, listed, numberTable, contentTable, listTable}

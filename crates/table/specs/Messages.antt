@@ -7,7 +7,7 @@ use lib.Dec.{eqb, ltb}
 use Rattle.message.specs.declared.Sale.{Sale}
 use Rattle.message.specs.declared.Record.{Record}
 use Rattle.octets.specs.Run.{same}
-use Rattle.store.specs.declared.lines.Line.{Line}
+use Rattle.lines.specs.declared.Line.{Line}
 
 -- ---- its type, by its letter
 

@@ -12,11 +12,11 @@ use Rattle.octets.specs.Text.{text}
 use Rattle.message.specs.Answers.{numberOf}
 use Rattle.message.specs.declared.Record.{Record}
 use Rattle.message.specs.declared.Reading.{Reading}
-use Rattle.store.specs.declared.Found.{Found}
-use Rattle.store.specs.declared.Found.the-variants.{Nothing, At}
-use Rattle.store.specs.declared.lines.Line.{Line}
-use Rattle.store.specs.declared.rows.Row.{Row}
-use Rattle.store.specs.Lines.{lineWith, noLine}
+use Rattle.cells.specs.declared.Found.{Found}
+use Rattle.cells.specs.declared.Found.the-variants.{Nothing, At}
+use Rattle.lines.specs.declared.Line.{Line}
+use Rattle.rows.specs.declared.Row.{Row}
+use Rattle.lines.specs.Lines.{lineWith, noLine}
 use Rattle.table.specs.Messages.{isEvent, namesOld, makesNew, due, oldKey, newKey, matches}
 
 -- ---- a table

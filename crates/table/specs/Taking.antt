@@ -4,11 +4,11 @@ use Prim.Native.Nat.{ℕ}
 use mathlib.Core.List.{List}
 use mathlib.Core.Bool.{true, cond}
 use Rattle.message.specs.declared.Record.{Record}
-use Rattle.store.specs.declared.Found.{Found}
-use Rattle.store.specs.declared.Found.the-variants.{Nothing, At}
-use Rattle.store.specs.declared.lines.Line.{Line}
-use Rattle.store.specs.Lines.{lineIn, withLine, withDead}
-use Rattle.store.specs.Rows.{withReport, withSummary}
+use Rattle.cells.specs.declared.Found.{Found}
+use Rattle.cells.specs.declared.Found.the-variants.{Nothing, At}
+use Rattle.lines.specs.declared.Line.{Line}
+use Rattle.lines.specs.Lines.{lineIn, withLine, withDead}
+use Rattle.rows.specs.Rows.{withReport, withSummary}
 use Rattle.table.specs.Messages.{isEvent, isTrade, isCancel, isCorrection, isSummary, oldKey, newKey}
 
 -- ---- lines

@@ -10,12 +10,12 @@ use Rattle.message.specs.Answers.{numberOf, answerOf}
 use Rattle.message.specs.declared.answer.Answer.{Answer}
 use Rattle.message.specs.declared.Record.{Record}
 use Rattle.message.specs.declared.Reading.{Reading}
-use Rattle.store.specs.declared.Found.{Found}
-use Rattle.store.specs.declared.Found.the-variants.{Nothing, At}
-use Rattle.store.specs.declared.lines.Line.{Line}
-use Rattle.store.specs.Lines.{lineWith, noLine}
-use Rattle.store.specs.declared.rows.Row.{Row}
-use Rattle.store.specs.Rows.{rowWith}
+use Rattle.cells.specs.declared.Found.{Found}
+use Rattle.cells.specs.declared.Found.the-variants.{Nothing, At}
+use Rattle.lines.specs.declared.Line.{Line}
+use Rattle.lines.specs.Lines.{lineWith, noLine}
+use Rattle.rows.specs.declared.Row.{Row}
+use Rattle.rows.specs.Rows.{rowWith}
 use Rattle.table.specs.declared.judge.Verdict.{Verdict}
 use Rattle.table.specs.Messages.{isEvent, namesOld, makesNew, trading, phaseOf, oldKey, newKey, matches}
 

@@ -1,20 +1,18 @@
 // Working the answer table: reads, changes nothing.
+use cells::Found;
+use lines::Line;
 use message::Reading;
 use message::Record;
 use message::Sale;
 use message::answer;
 use message::answer::Answer;
 use octets::run;
-use store::Found;
-use store::lines;
-use store::lines::Line;
-use store::rows;
 ghost use mathlib.Core.Path.{_≡_};
 ghost use mathlib.Core.List.{_∷_};
 ghost use lib.ListN.{length};
 ghost use Rattle.message.specs.Answers.{answerOf};
-ghost use Rattle.store.specs.Lines.{usedLines, lineLimit};
-ghost use Rattle.store.specs.Rows.{usedRows};
+ghost use Rattle.lines.specs.Lines.{usedLines, lineLimit};
+ghost use Rattle.rows.specs.Rows.{usedRows};
 ghost use Rattle.table.specs.Messages as Messages;
 ghost use Rattle.table.specs.Working as Working;
 

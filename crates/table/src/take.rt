@@ -1,10 +1,8 @@
 // What a taken message does to the lent bytes.
 use crate::judge::new_key;
 use crate::judge::old_key;
+use lines::Line;
 use message::Record;
-use store::lines;
-use store::lines::Line;
-use store::rows;
 ghost use mathlib.Core.Path.{_≡_};
 ghost use Rattle.table.specs.Taking as Taking;
 

@@ -5,7 +5,7 @@ use mathlib.Core.Bool.{false}
 use lib.IntN.{pos}
 use lib.ListN.{length}
 use Rattle.message.specs.Answers.{answerOf}
-use Rattle.store.specs.declared.rows.Reported.the-variants.{Volume}
+use Rattle.rows.specs.declared.Reported.the-variants.{Volume}
 use Rattle.walk.specs.declared.Price.the-variants.{Of}
 use Rattle.walk.specs.Figures as Figures
 use Rattle.show.specs.declared.Net.the-variants.{Amount}

@@ -10,9 +10,9 @@ use Rattle.octets.specs.Number as Number
 use Rattle.octets.specs.Text as Text
 use Rattle.sheet.specs.Sheet as Sheet
 use Rattle.message.specs.Reading as Reading
-use Rattle.store.specs.Search as Search
-use Rattle.store.specs.Lines as Lines
-use Rattle.store.specs.Rows as Rows
+use Rattle.cells.specs.Search as Search
+use Rattle.lines.specs.Lines as Lines
+use Rattle.rows.specs.Rows as Rows
 use Rattle.table.specs.Messages as Messages
 use Rattle.table.specs.Table as Table
 use Rattle.table.specs.Taking as Taking

@@ -11,8 +11,8 @@ use Rattle.octets.specs.Number.{be}
 use Rattle.octets.proofs.Laws.{tab-step, tab-end}
 use Rattle.sheet.specs.declared.Marks.{Marks}
 use Rattle.sheet.specs.Sheet.{conditionMarks}
-use Rattle.store.specs.Lines.{lineFrom}
-use Rattle.store.specs.declared.lines.Line.{Line}
+use Rattle.lines.specs.Lines.{lineFrom}
+use Rattle.lines.specs.declared.Line.{Line}
 use Rattle.walk.specs.declared.Figures.{Figures}
 use Rattle.walk.specs.Figures.{counts, dealt, sold, tally, fold}
 

@@ -12,16 +12,16 @@ use lib.Dec.{ltb}
 use lib.ListN.{length, length-append}
 use Rattle.octets.specs.Run.{tab, Bytes}
 use Rattle.octets.proofs.Laws.{be-below}
-use Rattle.store.specs.declared.lines.Line.{Line}
+use Rattle.lines.specs.declared.Line.{Line}
 use Rattle.walk.specs.declared.Price.{Price}
 use Rattle.walk.specs.declared.Price.the-variants.{Absent, Of}
 use Rattle.walk.specs.declared.Last.{Last}
 use Rattle.walk.specs.declared.Last.the-variants.{NoLast, Trade}
 use Rattle.walk.specs.declared.Figures.{Figures}
-use Rattle.store.specs.Lines.{lineFrom, lineAt, lineLimit, usedLines}
+use Rattle.lines.specs.Lines.{lineFrom, lineAt, lineLimit, usedLines}
 use Rattle.walk.specs.Figures.{counts, raise, lower, later, noFigures, sold, dealt, tally, fold, figuresOf}
 use Rattle.walk.specs.Meaning.{keep, liveOf, bearsFirst, bearsSecond, firstMark, secondMark, sizes, Extreme, IsExtreme, IsHigh, IsLow, Newest, IsLast, Are}
-use Rattle.store.proofs.Slabs.{used-lines-length}
+use Rattle.lines.proofs.Slabs.{used-lines-length}
 
 -- ---- one more line that passes, and one that does not
 

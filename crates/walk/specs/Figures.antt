@@ -7,7 +7,7 @@ use lib.Dec.{ltb}
 use Rattle.octets.specs.Run.{same}
 use Rattle.sheet.specs.Sheet.{conditionMarks}
 use Rattle.sheet.specs.declared.Marks.{Marks}
-use Rattle.store.specs.declared.lines.Line.{Line}
+use Rattle.lines.specs.declared.Line.{Line}
 use Rattle.walk.specs.declared.Price.{Price}
 use Rattle.walk.specs.declared.Price.the-variants.{Absent, Of}
 use Rattle.walk.specs.declared.Last.{Last}

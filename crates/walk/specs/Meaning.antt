@@ -7,7 +7,7 @@ use mathlib.Core.List.{List, [], _∷_, _++_, List·Memᴰ}
 use mathlib.Core.Bool.{Bool, cond}
 use lib.ListN.{length}
 use Rattle.sheet.specs.Sheet.{conditionMarks}
-use Rattle.store.specs.declared.lines.Line.{Line}
+use Rattle.lines.specs.declared.Line.{Line}
 use Rattle.walk.specs.declared.Price.{Price}
 use Rattle.walk.specs.declared.Price.the-variants.{Absent, Of}
 use Rattle.walk.specs.declared.Last.{Last}

@@ -1,17 +1,17 @@
 // The walk of one symbol's live lines into its figures.
+use lines::CELL;
+use lines::CONDITION;
+use lines::LIVE;
+use lines::PLACE;
+use lines::PRICE;
+use lines::SIZE;
+use lines::SYMBOL;
 use sheet::Marks;
-use store::lines::CELL;
-use store::lines::CONDITION;
-use store::lines::LIVE;
-use store::lines::PLACE;
-use store::lines::PRICE;
-use store::lines::SIZE;
-use store::lines::SYMBOL;
 ghost use mathlib.Core.Path.{_≡_};
 ghost use mathlib.Core.Bool.{cond};
 ghost use Prim.Native.Nat.{_+_, _*_, _≤_, _<_, _^_};
 ghost use lib.ListN.{length};
-ghost use Rattle.store.specs.Lines.{lineFrom, usedLines};
+ghost use Rattle.lines.specs.Lines.{lineFrom, usedLines};
 ghost use Rattle.walk.specs.Figures.{raise, lower, later, sold, tally, figuresOf};
 
 pub enum Price {
@@ -122,7 +122,7 @@ fn with_line(t: Figures, lines: &[u8], at: usize, symbol: [u8; 8]) -> Figures
 pub fn walk(lines: &[u8], used: usize, symbol: [u8; 8]) -> Figures
     ensures { λ r. ⌜ r ≡ figuresOf symbol (usedLines (now (lines .entry)) used) ⌝ }
 {
-    let limit = store::lines::limit(lines.len());
+    let limit = lines::limit(lines.len());
     let mut t = Figures {
         volume: 0,
         count: 0,

@@ -4,7 +4,7 @@ use crate::input::Tape;
 use book::counters::Counters;
 use libc::STDERR_FILENO;
 use libc::STDOUT_FILENO;
-ghost use Prim.Native.Nat.{_≤_};
+use octets::number::lesser;
 
 pub fn print(reading: Reading, rows: &[u8], lines: &[u8]) {
     let c = reading.counters;
@@ -29,7 +29,7 @@ fn print_rows(c: Counters, rows: &[u8], lines: &[u8]) {
 }
 
 fn print_row(c: Counters, rows: &[u8], lines: &[u8], i: usize) {
-    let kept = store::rows::get(rows, i);
+    let kept = rows::get(rows, i);
     let symbol = kept.symbol;
     let told = book::row(c, rows, lines, symbol);
     let shown = told.row;
@@ -68,12 +68,6 @@ fn complain() {
 }
 
 fn put(line: &[u8], n: usize) {
-    let k = least(n, line.len());
+    let k = lesser(n, line.len());
     io::write_all(STDOUT_FILENO, &line[..k]);
-}
-
-fn least(n: usize, k: usize) -> usize
-    ensures { λ r. ⌜ r ≤ k ⌝ }
-{
-    if n < k { n } else { k }
 }

@@ -1,7 +1,6 @@
 -- `feed::feed` meets its contract.
 -- Assumes nothing.
 use mathlib.Core.Path.{sym, ap, _∙_}
-use mathlib.Core.List.{List}
 use native.Mathlib.Omega.{arith}
 use lib.Seq.{length-take-le}
 use Rattle.tape.specs.Playing.{stateOf, playRows, playLines}
@@ -10,14 +9,14 @@ use borrow.Author.Needs.{needs}
 use Rattle.feed.proofs.feed.Statement.{statement}
 use Rattle.feed.proofs.feed.Tie as tie
 
-least-requires : tie.Need-least-requires
-least-requires c κs = search needs
+lesser-requires : tie.Need-lesser-requires
+lesser-requires c κs = search needs
 
 slice-reshare-prefix-play : tie.Need-slice-reshare-prefix-play
 slice-reshare-prefix-play c = search needs
 
 slice-aggregate-play : tie.Need-slice-aggregate-play
-slice-aggregate-play c = sym (length-take-le (c .before .before .before .least .result) (c .before .before .before .before .before .before .before .args .piece .now) (omega arith))
+slice-aggregate-play c = sym (length-take-le (c .before .before .before .lesser .result) (c .before .before .before .before .before .before .before .args .piece .now) (omega arith))
 
 play-requires : tie.Need-play-requires
 play-requires c κs = search needs
@@ -26,7 +25,7 @@ sub-to-front : tie.Need-sub-to-front
 sub-to-front c =
     let a = c .before .before .before .before .before .before .before .before .before .before .before .before .before .before .args in
     let s = stateOf (a .c) (a .rows .now) (a .lines .now) in
-    let l = c .before .before .before .before .before .before .before .before .before .before .least in
+    let l = c .before .before .before .before .before .before .before .before .before .before .lesser in
     let p = c .before .before .before .before .before .before .play in
     used-fits s (a .n) (a .piece .now) (l .result) (l .ensures) (p .result) (p .ensures .0)
 
@@ -37,7 +36,7 @@ sub-t11 : tie.Need-sub-t11
 sub-t11 c =
     let a = c .before .before .before .before .before .before .before .before .before .before .before .before .before .before .before .before .before .args in
     let s = stateOf (a .c) (a .rows .now) (a .lines .now) in
-    let l = c .before .before .before .before .before .before .before .before .before .before .before .before .before .least in
+    let l = c .before .before .before .before .before .before .before .before .before .before .before .before .before .lesser in
     let p = c .before .before .before .before .before .before .before .before .before .play in
     used-fits s (a .n) (a .piece .now) (l .result) (l .ensures) (p .result) (p .ensures .0)
 
@@ -54,7 +53,7 @@ returns : tie.Need-returns
 returns c =
     let a = c .before .before .before .before .before .before .before .before .before .before .before .before .before .before .before .before .before .args in
     let s = stateOf (a .c) (a .rows .now) (a .lines .now) in
-    let l = c .before .before .before .before .before .before .before .before .before .before .before .before .before .least in
+    let l = c .before .before .before .before .before .before .before .before .before .before .before .before .before .lesser in
     let p = c .before .before .before .before .before .before .before .before .before .play in
     let b = brought s (a .n) (a .piece .now) (l .result) (l .ensures) (p .result) (p .ensures .0) in (
       said s (a .n) (a .piece .now) (l .result) (l .ensures) (p .result) (p .ensures .0),
@@ -71,7 +70,7 @@ pub feed-spec : {M : Type 1} → statement M
 feed-spec =
     tie.close
     (tie.spec
-    least-requires
+    lesser-requires
     slice-reshare-prefix-play
     slice-aggregate-play
     play-requires

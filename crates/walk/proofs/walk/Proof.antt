@@ -6,7 +6,7 @@ use native.Mathlib.Nat.{sub-zero}
 use native.Mathlib.Omega.{arith}
 use lib.ListN.{length}
 use Rattle.octets.specs.Run.{tab}
-use Rattle.store.specs.Lines.{lineAt, lineLimit, usedLines}
+use Rattle.lines.specs.Lines.{lineAt, lineLimit, usedLines}
 use Rattle.walk.specs.Figures.{fold, tally, figuresOf}
 use Rattle.walk.proofs.Laws.{fold-step, fold-end}
 use borrow.Author.Needs.{needs}

@@ -3,7 +3,6 @@
 use mathlib.Core.Path.{sym}
 use lib.Seq.{length-take-le}
 use native.Mathlib.Omega.{arith}
-use borrow.Author.Needs.{needs}
 use Rattle.days.proofs.play.least.Statement.{statement}
 use Rattle.days.proofs.play.least.Tie as tie
 

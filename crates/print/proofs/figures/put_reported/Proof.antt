@@ -3,7 +3,7 @@
 use mathlib.Core.Path.{ap, sym}
 use mathlib.Core.List.{_∷_}
 use native.Mathlib.Omega.{arith}
-use Rattle.store.specs.declared.rows.Reported.{Reported}
+use Rattle.rows.specs.declared.Reported.{Reported}
 use Rattle.print.specs.Texts.{reportedText}
 use Rattle.print.proofs.Laws.{retold}
 use borrow.Author.Needs.{needs}

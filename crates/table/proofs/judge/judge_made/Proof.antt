@@ -5,7 +5,7 @@ use mathlib.Core.List.{List}
 use mathlib.Core.Bool.{true, false}
 use Prim.Native.Nat.{ℕ}
 use borrow.Author.Tests.{le-leb, lt-leb}
-use Rattle.store.specs.Lines.{usedLines, lineWith}
+use Rattle.lines.specs.Lines.{usedLines, lineWith}
 use Rattle.table.specs.Working.{madeBy}
 use Rattle.table.proofs.Laws.{made-none, made-found}
 use borrow.Author.Needs.{needs}

@@ -4,7 +4,7 @@ use mathlib.Core.Path.{ap, sym, _∙_}
 use mathlib.Core.List.{List}
 use mathlib.Core.Bool.{true, false}
 use Prim.Native.Nat.{ℕ}
-use Rattle.store.specs.Lines.{usedLines, lineWith}
+use Rattle.lines.specs.Lines.{usedLines, lineWith}
 use Rattle.table.specs.Working.{namedAt, namedBy}
 use Rattle.table.proofs.Laws.{named-dead, named-live}
 use borrow.Author.Needs.{needs}

@@ -3,7 +3,7 @@
 use mathlib.Core.Path.{ap, sym, _∙_}
 use borrow.Author.Tests.{eq-eqb, ne-eqb}
 use Rattle.table.proofs.Laws.{corrected-stored, by-correction}
-use Rattle.store.specs.Lines.{withLine}
+use Rattle.lines.specs.Lines.{withLine}
 use Rattle.table.specs.Taking.{linesBy}
 use borrow.Author.Needs.{needs}
 use Rattle.table.proofs.take.take_lines.Statement.{statement}

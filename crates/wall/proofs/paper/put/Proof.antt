@@ -7,11 +7,11 @@ use borrow.Author.Needs.{needs}
 use Rattle.wall.proofs.paper.put.Statement.{statement}
 use Rattle.wall.proofs.paper.put.Tie as tie
 
-least-requires : tie.Need-least-requires
-least-requires c κs = search needs
+lesser-requires : tie.Need-lesser-requires
+lesser-requires c κs = search needs
 
 slice-aggregate-write-all : tie.Need-slice-aggregate-write-all
-slice-aggregate-write-all c = sym (length-take-le (c .before .least .result) (c .before .before .before .args .line .now) (omega arith))
+slice-aggregate-write-all c = sym (length-take-le (c .before .lesser .result) (c .before .before .before .args .line .now) (omega arith))
 
 write-all-requires : tie.Need-write-all-requires
 write-all-requires c κs = search needs
@@ -20,4 +20,4 @@ returns : tie.Need-returns
 returns c = search needs
 
 pub put-spec : {M : Type 1} → statement M
-put-spec = tie.close (tie.spec least-requires slice-aggregate-write-all write-all-requires returns)
+put-spec = tie.close (tie.spec lesser-requires slice-aggregate-write-all write-all-requires returns)

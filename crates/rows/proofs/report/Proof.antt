@@ -1,0 +1,56 @@
+-- `rows::report` meets its contract.
+-- Assumes nothing.
+use mathlib.Core.Path.{sym, _∙_}
+use Prim.Native.Nat.{_*_}
+use Rattle.cells.proofs.Laws.{inside, outside}
+use Rattle.rows.proofs.Laws.{report-stored}
+use Rattle.rows.specs.Rows.{inRow}
+use borrow.Author.Needs.{needs}
+use Rattle.rows.proofs.report.Statement.{statement}
+use Rattle.rows.proofs.report.Tie as tie
+
+limit-requires : tie.Need-limit-requires
+limit-requires c κs = search needs
+
+mul-at : tie.Need-mul-at
+mul-at c = search needs
+
+add-put-byte : tie.Need-add-put-byte
+add-put-byte c = search needs
+
+put-byte-requires : tie.Need-put-byte-requires
+put-byte-requires c κs = search needs
+
+add-put8 : tie.Need-add-put8
+add-put8 c = search needs
+
+put8-requires : tie.Need-put8-requires
+put8-requires c κs = search needs
+
+same-length : tie.Need-same-length
+same-length c = search needs
+
+returns : tie.Need-returns
+unfolding inRow
+returns c =
+    let a = c .before .before .before .before .before .before .before .before .before .before .before .args in
+    report-stored (a .rows .now) _ _ (a .i * 30) (a .volume) (c .before .before .before .before .before .before .put-byte .ensures) (c .before .before .put8 .ensures)
+    ∙ sym (inside _ _ _ _ _ (c .before .before .before .before .before .before .before .before .before .limit .ensures) (c .before .before .before .before .before .before .before .before .if1 .taken))
+
+returns-2 : tie.Need-returns-2
+unfolding inRow
+returns-2 c = sym (outside _ _ _ _ _ (c .before .limit .ensures) (c .if1 .left))
+
+pub report-spec : {M : Type 1} → statement M
+report-spec =
+    tie.close
+    (tie.spec
+    limit-requires
+    mul-at
+    add-put-byte
+    put-byte-requires
+    add-put8
+    put8-requires
+    same-length
+    returns
+    returns-2)

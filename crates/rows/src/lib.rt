@@ -1,0 +1,165 @@
+// Rows: one cell of 30 bytes for each listed symbol.
+use cells::Found;
+use octets::number::lesser;
+ghost use mathlib.Core.Path.{_≡_};
+ghost use Prim.Native.Nat.{_+_, _*_, _≤_};
+ghost use lib.ListN.{length};
+ghost use Rattle.rows.specs.Rows.{rowFrom, noRow, summaryAt, reportedAt, rowLimit, usedRows, rowWith, rowIn, withRow, withReport, withSummary};
+
+// What the latest J that was taken says: its high and its low.
+pub enum Summary {
+    NoSummary,
+    HighLow(u32, u32),
+}
+
+// The consolidated volume that was reported last.
+pub enum Reported {
+    NotSet,
+    Volume(u64),
+}
+
+// A listed symbol. A close of 0 is unknown.
+pub struct Row {
+    pub symbol: [u8; 8],
+    pub close: u32,
+    pub summary: Summary,
+    pub reported: Reported,
+}
+
+// At most this many rows, however long the room.
+const CAP: usize = 256;
+
+// The cell, and where each field stands in it; the symbol stands first.
+const CELL: usize = 30;
+
+const CLOSE: usize = 8;
+
+const SUMMARY: usize = 12;
+
+const HIGH: usize = 13;
+
+const LOW: usize = 17;
+
+const REPORTED: usize = 21;
+
+const VOLUME: usize = 22;
+
+// How many rows a room of that many bytes holds.
+pub fn limit(room: usize) -> usize
+    ensures { λ r. ⌜ r ≡ rowLimit room ⌝ }
+{
+    lesser(CAP, room / CELL)
+}
+
+// The first used row of the symbol.
+pub fn find(rows: &[u8], used: usize, symbol: [u8; 8]) -> Found
+    ensures { λ r. ⌜ r ≡ rowWith symbol (usedRows (now (rows .entry)) used) ⌝ }
+{
+    let n = lesser(used, limit(rows.len()));
+    let mut i: usize = 0;
+    while i < n {
+        if octets::run::same_at(rows, i * CELL, &symbol) {
+            return Found::At(i);
+        }
+        i += 1;
+    }
+    Found::Nothing
+}
+
+fn summary_at(rows: &[u8], at: usize) -> Summary
+    requires { ⌜ at + 30 ≤ length (now rows) ⌝ }
+    ensures { λ r. ⌜ r ≡ summaryAt (now (rows .entry)) at ⌝ }
+{
+    let high = octets::number::number4(rows, at + HIGH);
+    let low = octets::number::number4(rows, at + LOW);
+    if octets::run::byte(rows, at + SUMMARY) == 1 {
+        Summary::HighLow(high, low)
+    } else {
+        Summary::NoSummary
+    }
+}
+
+fn reported_at(rows: &[u8], at: usize) -> Reported
+    requires { ⌜ at + 30 ≤ length (now rows) ⌝ }
+    ensures { λ r. ⌜ r ≡ reportedAt (now (rows .entry)) at ⌝ }
+{
+    let volume = octets::number::number8(rows, at + VOLUME);
+    if octets::run::byte(rows, at + REPORTED) == 1 {
+        Reported::Volume(volume)
+    } else {
+        Reported::NotSet
+    }
+}
+
+// The row whose cell starts at an offset.
+fn read(rows: &[u8], at: usize) -> Row
+    requires { ⌜ at + 30 ≤ length (now rows) ⌝ }
+    ensures { λ r. ⌜ r ≡ rowFrom (now (rows .entry)) at ⌝ }
+{
+    let mut symbol = [0u8; 8];
+    octets::run::fill(&mut symbol, rows, at);
+    Row {
+        symbol: symbol,
+        close: octets::number::number4(rows, at + CLOSE),
+        summary: summary_at(rows, at),
+        reported: reported_at(rows, at),
+    }
+}
+
+fn no_row() -> Row
+    ensures { λ r. ⌜ r ≡ noRow ⌝ }
+{
+    Row {
+        symbol: [0u8; 8],
+        close: 0,
+        summary: Summary::NoSummary,
+        reported: Reported::NotSet,
+    }
+}
+
+// Row i of the room; where there is none, a row of zeros and absent figures.
+pub fn get(rows: &[u8], i: usize) -> Row
+    ensures { λ r. ⌜ r ≡ rowIn (now (rows .entry)) i ⌝ }
+{
+    if i < limit(rows.len()) {
+        read(rows, i * CELL)
+    } else {
+        no_row()
+    }
+}
+
+// Stores a new row, without J and with nothing reported, as row i of the room, where the room has such a row.
+pub fn put(rows: &mut [u8], i: usize, symbol: [u8; 8], close: u32)
+    ensures { λ _. ⌜ now (rows .exit) ≡ withRow (now (rows .entry)) i symbol close ⌝ }
+{
+    if i < limit(rows.len()) {
+        let at = i * CELL;
+        let rest = [0u8; 18];
+        octets::run::paste(rows, at, &symbol);
+        octets::number::put4(rows, at + CLOSE, close);
+        octets::run::paste(rows, at + SUMMARY, &rest);
+    }
+}
+
+// Sets the reported volume of row i of the room, where the room has such a row.
+pub fn report(rows: &mut [u8], i: usize, volume: u64)
+    ensures { λ _. ⌜ now (rows .exit) ≡ withReport (now (rows .entry)) i volume ⌝ }
+{
+    if i < limit(rows.len()) {
+        let at = i * CELL;
+        octets::run::put_byte(rows, at + REPORTED, 1);
+        octets::number::put8(rows, at + VOLUME, volume);
+    }
+}
+
+// Keeps a J's high and low in row i of the room, where the room has such a row.
+pub fn summarise(rows: &mut [u8], i: usize, high: u32, low: u32)
+    ensures { λ _. ⌜ now (rows .exit) ≡ withSummary (now (rows .entry)) i high low ⌝ }
+{
+    if i < limit(rows.len()) {
+        let at = i * CELL;
+        octets::run::put_byte(rows, at + SUMMARY, 1);
+        octets::number::put4(rows, at + HIGH, high);
+        octets::number::put4(rows, at + LOW, low);
+    }
+}

@@ -1,4 +1,0 @@
-pub mod Search
-pub mod Lines
-pub mod Rows
-pub mod Changed
