@@ -4,6 +4,7 @@ use mathlib.Core.Path.{_≡_, refl, sym, _∙_}
 use Prim.Native.Nat.{_+_, _-_, _≤_}
 use native.Mathlib.Omega.{arith}
 use lib.ListN.{length, drop}
+use Rattle.octets.specs.Run.{Bytes}
 use Rattle.tape.specs.Entries.{headOf}
 use Rattle.tape.specs.declared.entries.Head.the-variants.{Whole}
 use Rattle.tape.specs.Playing.{stateOf, play, further}
@@ -19,6 +20,11 @@ Inv-loop rows₀ lines₀ part counters₀ at₀ rows lines counters at =
 
 abbrev μ-loop : tie.MeasureT-loop
 μ-loop rows₀ lines₀ part counters₀ at₀ rows lines counters at = length part - at
+
+-- what a call lends are bytes
+pub entered : (c : tie.After-shared-slice-known Inv-loop μ-loop)
+    → Bytes (c .before .before .before .args .rows .now) × Bytes (c .before .before .before .args .lines .now) × Bytes (c .before .before .before .args .part .now)
+entered c = (λ i. c .before .before .slice-known .given i .fits, λ i. c .before .slice-known2 .given i .fits, λ i. c .shared-slice-known .given i .fits)
 
 loop-holds : tie.Need-loop-holds Inv-loop μ-loop
 loop-holds c = (omega arith, refl, refl, further-none _)
