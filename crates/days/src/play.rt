@@ -15,12 +15,7 @@ use walk::Price;
 ghost use Rattle.io.specs.Counts.{Counts};
 
 pub fn list(c: Counters, rows: &mut [u8], lines: &[u8], code: &[u8]) -> Counters {
-    let symbol = symbol(code);
-    let close = number4(code, 9);
-    tell::words(b"list ");
-    tell::words(&symbol);
-    tell::field(b" ", close as u64);
-    let said = book::list(c, rows, lines, symbol, close);
+    let said = book::list(c, rows, lines, symbol(code), number4(code, 9));
     after(said, rows, lines)
 }
 
@@ -31,32 +26,10 @@ fn symbol(code: &[u8]) -> [u8; 8] {
 }
 
 pub fn deliver(c: Counters, rows: &mut [u8], lines: &mut [u8], code: &[u8]) -> Counters {
-    if code.len() < 10 {
+    if code.len() < 9 {
         return c;
     }
-    give(
-        c,
-        rows,
-        lines,
-        number8(code, 1),
-        run::byte(code, 9) as usize,
-        &code[10..],
-    )
-}
-
-// The first n bytes under a number; the others name them.
-fn give(
-    c: Counters,
-    rows: &mut [u8],
-    lines: &mut [u8],
-    number: u64,
-    n: usize,
-    bytes: &[u8],
-) -> Counters {
-    let k = least(n, bytes);
-    tell::field(b"deliver ", number);
-    tell::rest(bytes, k);
-    let said = book::deliver(c, rows, lines, number, &bytes[..k]);
+    let said = book::deliver(c, rows, lines, number8(code, 1), &code[9..]);
     after(said, rows, lines)
 }
 
@@ -67,54 +40,48 @@ pub fn least(n: usize, s: &[u8]) -> usize
     if n < s.len() { n } else { s.len() }
 }
 
-// The writer by itself, and what the reader says of the space then.
+// The writer by itself: an event at 1,000 ms.
 pub fn write(space: &mut [u8], code: &[u8]) {
     let sound = message::read(b"\x00\x00\x03\xe8SO");
     let mut r = sound.found;
     r.event = run::byte(code, 1);
     let a = message::write(r, space);
-    tell::words(b"write ");
-    tell::rest(code, 1);
-    tell::field(b": ", answer::number(a) as u64);
-    tell::field(b"; ", rooms::sum(space));
-    read(space);
+    tell::number(b':', answer::number(a) as u64);
+    tell::number(b';', rooms::sum(space));
 }
 
-fn read(space: &[u8]) {
+// The reader by itself.
+pub fn read(space: &[u8]) {
     let said = message::read(space);
     let a = said.answer;
-    tell::field(b"; read: ", answer::number(a) as u64);
+    tell::number(b':', answer::number(a) as u64);
     tell::words(b"\n");
 }
 
 fn after(said: Said, rows: &[u8], lines: &[u8]) -> Counters {
     let a = said.answer;
     let c = said.counters;
-    tell::field(b": ", answer::number(a) as u64);
+    tell::number(b':', answer::number(a) as u64);
     state(c, rows, lines);
     c
 }
 
 // The counters and the sums of both rooms.
 pub fn state(c: Counters, rows: &[u8], lines: &[u8]) {
-    tell::field(b"; ", c.wanted);
-    tell::field(b" ", c.phase);
-    tell::field(b" ", c.rows as u64);
-    tell::field(b" ", c.lines as u64);
-    tell::field(b" ", c.taken);
-    tell::field(b"; ", rooms::sum(rows));
-    tell::field(b" ", rooms::sum(lines));
+    tell::number(b';', c.wanted);
+    tell::number(b' ', c.phase);
+    tell::number(b' ', c.rows as u64);
+    tell::number(b' ', c.lines as u64);
+    tell::number(b' ', c.taken);
+    tell::number(b';', rooms::sum(rows));
+    tell::number(b' ', rooms::sum(lines));
     tell::words(b"\n");
 }
 
 pub fn row(c: Counters, rows: &[u8], lines: &[u8], code: &[u8]) {
-    let symbol = symbol(code);
-    tell::words(b"row ");
-    tell::words(&symbol);
-    let said = book::row(c, rows, lines, symbol);
+    let said = book::row(c, rows, lines, symbol(code));
     let a = said.answer;
-    tell::field(b": ", answer::number(a) as u64);
-    tell::words(b"; ");
+    tell::number(b':', answer::number(a) as u64);
     shown(said.row);
 }
 
@@ -125,6 +92,7 @@ fn shown(r: RowShown) {
     let low = r.low;
     let change = r.net;
     let volume = r.reported;
+    tell::words(b"; ");
     io::print_hex(STDOUT_FILENO, number8(&found, 0), 16);
     tell::field(b" close ", r.close as u64);
     price(b" last ", last);
@@ -133,8 +101,7 @@ fn shown(r: RowShown) {
     net(change);
     tell::field(b" volume ", r.volume);
     tell::field(b" count ", r.count);
-    agrees(r.agrees);
-    reported(volume);
+    reported(r.agrees, volume);
 }
 
 fn price(name: &[u8], p: Price) {
@@ -163,19 +130,16 @@ fn net(n: Net) {
     }
 }
 
-fn agrees(yes: bool) {
-    if yes {
-        tell::words(b" agrees yes");
+fn reported(agrees: bool, r: Reported) {
+    if agrees {
+        tell::words(b" agrees yes reported ");
     } else {
-        tell::words(b" agrees no");
+        tell::words(b" agrees no reported ");
     }
-}
-
-fn reported(r: Reported) {
     match r {
-        Reported::NotSet => tell::words(b" reported -\n"),
+        Reported::NotSet => tell::words(b"-\n"),
         Reported::Volume(x) => {
-            tell::field(b" reported ", x);
+            tell::field(b"", x);
             tell::words(b"\n");
         }
     }

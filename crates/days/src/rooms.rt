@@ -6,30 +6,23 @@ use octets::run;
 use std::num::wrapping_add_usize;
 ghost use Prim.Native.Nat.{_<_};
 
-// Both rooms, with a gap before each cell. Of a row: symbol, close, J mark, high, low, reported mark, volume. Of a line:
-// key, symbol, price, size, condition, place, time, live mark.
-pub fn tell(rows: &[u8], lines: &[u8], gap: &[u8]) {
-    tell::words(b"rows");
-    tell_room(rows, 30, b"[........ 4 J1 4 4 R1 8]", gap);
-    tell::words(b"\nlines");
-    tell_room(lines, 40, b"[........... ........ 4 4 .... 4 4 1]", gap);
-    tell::words(b"\n");
-}
-
-fn tell_room(room: &[u8], cell: usize, form: &[u8], gap: &[u8])
+// A room's cells, with a gap before each. Of a row: symbol, close, J mark, high, low, reported mark, volume. Of a line:
+// key, symbol, price, size, condition, place, time, live mark. The gap stands after the first byte of the code.
+pub fn tell(room: &[u8], cell: usize, form: &[u8], code: &[u8])
     requires { ⌜ 0 < cell ⌝ }
 {
     let mut at: usize = 0;
     while cell <= room.len() - at {
-        tell::words(gap);
+        tell::rest(code, 1);
         tell_cell(room, at, form);
         at += cell;
     }
     if at < room.len() {
-        tell::words(gap);
+        tell::rest(code, 1);
         tell::words(b"+");
         tell::words(&room[at..]);
     }
+    tell::words(b"\n");
 }
 
 fn tell_cell(room: &[u8], start: usize, form: &[u8]) {
@@ -75,17 +68,12 @@ pub fn paste(room: &mut [u8], code: &[u8]) {
     }
 }
 
-pub fn fill(room: &mut [u8], b: u8) {
-    let all = [b; 7710];
-    run::fill(room, &all, 0);
-}
-
 // A sum that no change of one byte leaves as it was.
 pub fn sum(room: &[u8]) -> u64 {
     let mut sum: u64 = 0;
     let mut i: usize = 0;
     while i < room.len() {
-        sum = (sum * 31 + tell::wide(room[i]) + 1) % 65521;
+        sum = (sum * 31 + (room[i] as u64) + 1) % 65521;
         i += 1;
     }
     sum

@@ -1,19 +1,19 @@
-// A script's lines, one after the other. A line starts with a letter; numbers in it stand in brackets, as `form` says:
-// B starts a book: {bytes for rows}{bytes for lines}, a byte that fills both; its counters are fresh;
-// K sets the counters: {wanted}{phase}{rows}{lines}{taken}; r and l store bytes in the rows' and the lines' room: {place}bytes;
-// L lists: symbol<close>; R reads a row: symbol; D delivers: {number}(length)message, then its name;
-// W writes an event, under its name, into the rows' room and reads that;
-// N names the book as it is; T tells both rooms, t with each cell in a line of its own; a quote tells the rest of the line.
+// A script's lines, one after the other. What stands before a bar is told as it is. Then comes a letter; the numbers
+// after it stand in brackets, as `form` says:
+// B starts a fresh book: {bytes for rows}{bytes for lines}, a byte that fills both;
+// K sets its counters: {wanted}{phase}{rows}{lines}{taken}; r and l store bytes in a room: {place}bytes;
+// L lists: symbol<close>; R reads a row: symbol; D delivers: {number}message; N tells the book as it is;
+// W writes an event into the rows' room, M reads that room as a message;
+// T and U tell the rows' and the lines' room, with what follows before each cell; a dot ends what is told.
 // Any other line is passed over.
 use crate::form;
+use crate::form::Pen;
 use crate::play;
 use crate::rooms;
 use crate::tell;
 use book::counters::Counters;
 use octets::number::number8;
 use octets::run;
-ghost use Prim.Native.Nat.{_≤_, _<_};
-ghost use lib.ListN.{length};
 
 // A book's counters, and how many bytes are lent to it.
 struct Day {
@@ -22,59 +22,62 @@ struct Day {
     lines: usize,
 }
 
-pub fn play(text: &[u8], rows: &mut [u8], lines: &mut [u8]) {
-    let mut day = fresh(0, 0);
-    let mut at: usize = 0;
-    while at < text.len() {
-        let e = end(text, at);
-        day = step(day, rows, lines, &text[at..e]);
-        at = e + 1;
-    }
-}
-
-fn fresh(rows: usize, lines: usize) -> Day {
-    Day {
+// Signs gather in the space until their line ends.
+pub fn play(text: &[u8], rows: &mut [u8], lines: &mut [u8], space: &mut [u8]) {
+    let mut day = Day {
         counters: book::fresh(),
-        rows,
-        lines,
+        rows: 0,
+        lines: 0,
+    };
+    let mut pen = Pen(0, 0, false);
+    let mut i: usize = 0;
+    while i < text.len() {
+        let b = text[i];
+        day = turn(day, rows, lines, space, pen.0, b);
+        pen = form::sign(pen, space, b);
+        i += 1;
     }
 }
 
-// Where the line ends that a place is in.
-fn end(text: &[u8], from: usize) -> usize
-    requires { ⌜ from < length (now text) ⌝ }
-    ensures { λ r. ⌜ (from ≤ r) × (r ≤ length (now (text .entry))) ⌝ }
-{
-    let mut at: usize = from;
-    while at < text.len() {
-        if text[at] == b'\n' {
-            return at;
-        }
-        at += 1;
+// At a bar the n bytes so far are told, at a line's end they are played.
+fn turn(day: Day, rows: &mut [u8], lines: &mut [u8], space: &[u8], n: usize, b: u8) -> Day {
+    if b == b'\n' {
+        let k = play::least(n, space);
+        return line(day, rows, lines, &space[..k]);
     }
-    at
-}
-
-fn step(day: Day, rows: &mut [u8], lines: &mut [u8], line: &[u8]) -> Day {
-    let mut space = [0u8; 128];
-    let n = form::bytes(&mut space, line);
-    let d = opened(day, &space);
-    let n = play::least(n, &space);
-    let r = play::least(d.rows, rows);
-    let l = play::least(d.lines, lines);
-    let c = call(d.counters, &mut rows[..r], &mut lines[..l], &space[..n]);
-    Day {
-        counters: c,
-        rows: d.rows,
-        lines: d.lines,
-    }
-}
-
-fn opened(day: Day, code: &[u8]) -> Day {
-    if run::byte(code, 0) == b'B' {
-        return fresh(number8(code, 1) as usize, number8(code, 9) as usize);
+    if b == b'|' {
+        let k = play::least(n, space);
+        tell::words(&space[..k]);
     }
     day
+}
+
+fn line(day: Day, rows: &mut [u8], lines: &mut [u8], code: &[u8]) -> Day {
+    if run::byte(code, 0) == b'B' {
+        return opened(rows, lines, code);
+    }
+    let r = play::least(day.rows, rows);
+    let l = play::least(day.lines, lines);
+    let c = call(day.counters, &mut rows[..r], &mut lines[..l], code);
+    Day {
+        counters: c,
+        rows: day.rows,
+        lines: day.lines,
+    }
+}
+
+// A fresh book in rooms full of one byte.
+fn opened(rows: &mut [u8], lines: &mut [u8], code: &[u8]) -> Day {
+    let blank = [run::byte(code, 17); 7710];
+    let r = play::least(number8(code, 1) as usize, rows);
+    let l = play::least(number8(code, 9) as usize, lines);
+    run::fill(&mut rows[..r], &blank, 0);
+    run::fill(&mut lines[..l], &blank, 0);
+    Day {
+        counters: book::fresh(),
+        rows: r,
+        lines: l,
+    }
 }
 
 fn call(c: Counters, rows: &mut [u8], lines: &mut [u8], code: &[u8]) -> Counters {
@@ -82,8 +85,16 @@ fn call(c: Counters, rows: &mut [u8], lines: &mut [u8], code: &[u8]) -> Counters
         b'K' => counters(code),
         b'L' => play::list(c, rows, lines, code),
         b'D' => play::deliver(c, rows, lines, code),
-        b'B' | b'r' | b'l' | b'W' => {
-            store(rows, lines, code);
+        b'r' => {
+            rooms::paste(rows, code);
+            c
+        }
+        b'l' => {
+            rooms::paste(lines, code);
+            c
+        }
+        b'W' => {
+            play::write(rows, code);
             c
         }
         _ => {
@@ -103,32 +114,15 @@ fn counters(code: &[u8]) -> Counters {
     }
 }
 
-// What changes lent bytes without a call of the book.
-fn store(rows: &mut [u8], lines: &mut [u8], code: &[u8]) {
-    match run::byte(code, 0) {
-        b'r' => rooms::paste(rows, code),
-        b'l' => rooms::paste(lines, code),
-        b'W' => play::write(rows, code),
-        _ => {
-            rooms::fill(rows, run::byte(code, 17));
-            rooms::fill(lines, run::byte(code, 17));
-        }
-    }
-}
-
+// What changes nothing.
 fn look(c: Counters, rows: &[u8], lines: &[u8], code: &[u8]) {
     match run::byte(code, 0) {
         b'R' => play::row(c, rows, lines, code),
-        b'T' => rooms::tell(rows, lines, b" "),
-        b't' => rooms::tell(rows, lines, b"\n "),
-        b'N' => {
-            tell::rest(code, 1);
-            play::state(c, rows, lines);
-        }
-        b'"' => {
-            tell::rest(code, 1);
-            tell::words(b"\n");
-        }
+        b'N' => play::state(c, rows, lines),
+        b'M' => play::read(rows),
+        b'T' => rooms::tell(rows, 30, b"[........ 4 J1 4 4 R1 8]", code),
+        b'U' => rooms::tell(lines, 40, b"[........... ........ 4 4 .... 4 4 1]", code),
+        b'.' => tell::words(b"\n"),
         _ => {}
     }
 }

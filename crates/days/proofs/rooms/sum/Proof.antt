@@ -1,6 +1,7 @@
 -- `days::rooms::sum` meets its contract. The sum stays below its modulus; the measure is what is left of the length.
 -- Assumes nothing.
 use Prim.Native.Nat.{_≤_, _<_, _-_}
+use native.Mathlib.Omega.{arith}
 use lib.ListN.{length}
 use borrow.Author.Needs.{needs}
 use Rattle.days.proofs.rooms.sum.Statement.{statement}
@@ -18,17 +19,17 @@ loop-holds c = search needs
 mul-sum : tie.Need-mul-sum Inv-loop μ-loop
 mul-sum c = search needs
 
-shared-slice-read-wide : tie.Need-shared-slice-read-wide Inv-loop μ-loop
-shared-slice-read-wide c = search needs
+shared-slice-read-sum : tie.Need-shared-slice-read-sum Inv-loop μ-loop
+shared-slice-read-sum c = search needs
 
-wide-requires : tie.Need-wide-requires Inv-loop μ-loop
-wide-requires c κs = search needs
+cast-sum : tie.Need-cast-sum Inv-loop μ-loop
+cast-sum c = omega (arith, c .shared-slice-known .given (c .before .before .loop .i))
 
 add-sum : tie.Need-add-sum Inv-loop μ-loop
-add-sum c = search needs
+add-sum c = omega (arith, c .shared-slice-known .given (c .before .before .loop .i))
 
 add-sum-2 : tie.Need-add-sum-2 Inv-loop μ-loop
-add-sum-2 c = search needs
+add-sum-2 c = omega (arith, c .shared-slice-known .given (c .before .before .loop .i))
 
 add-i : tie.Need-add-i Inv-loop μ-loop
 add-i c = search needs
@@ -50,8 +51,8 @@ sum-spec =
     μ-loop
     loop-holds
     mul-sum
-    shared-slice-read-wide
-    wide-requires
+    shared-slice-read-sum
+    cast-sum
     add-sum
     add-sum-2
     add-i

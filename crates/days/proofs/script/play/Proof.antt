@@ -1,6 +1,6 @@
--- `days::script::play` meets its contract. The loop keeps both lengths; the measure is what is left of the text.
+-- `days::script::play` meets its contract. The loop keeps the three lengths; the measure is what is left of the text.
 -- Assumes nothing.
-use Prim.Native.Nat.{_-_}
+use Prim.Native.Nat.{_≤_, _-_}
 use mathlib.Core.Path.{_≡_}
 use lib.ListN.{length}
 use borrow.Author.Needs.{needs}
@@ -8,10 +8,10 @@ use Rattle.days.proofs.script.play.Statement.{statement}
 use Rattle.days.proofs.script.play.Tie as tie
 
 abbrev Inv-loop : tie.InvT-loop
-Inv-loop text rows₀ lines₀ day₀ at₀ rows lines day at = (length rows ≡ length rows₀) × (length lines ≡ length lines₀)
+Inv-loop text rows₀ lines₀ space₀ day₀ pen₀ i₀ rows lines space day pen i = (i ≤ length text) × (length rows ≡ length rows₀) × (length lines ≡ length lines₀) × (length space ≡ length space₀)
 
 abbrev μ-loop : tie.MeasureT-loop
-μ-loop text rows₀ lines₀ day₀ at₀ rows lines day at = length text - at
+μ-loop text rows₀ lines₀ space₀ day₀ pen₀ i₀ rows lines space day pen i = length text - i
 
 fresh-requires : tie.Need-fresh-requires Inv-loop μ-loop
 fresh-requires c κs = search needs
@@ -19,23 +19,17 @@ fresh-requires c κs = search needs
 loop-holds : tie.Need-loop-holds Inv-loop μ-loop
 loop-holds c = search needs
 
-end-requires : tie.Need-end-requires Inv-loop μ-loop
-end-requires c κs = search needs
+shared-slice-read-b : tie.Need-shared-slice-read-b Inv-loop μ-loop
+shared-slice-read-b c = search needs
 
-sub-step : tie.Need-sub-step Inv-loop μ-loop
-sub-step c = search needs
+turn-requires : tie.Need-turn-requires Inv-loop μ-loop
+turn-requires c κs = search needs
 
-part-step-start : tie.Need-part-step-start Inv-loop μ-loop
-part-step-start c = search needs
+sign-requires : tie.Need-sign-requires Inv-loop μ-loop
+sign-requires c κs = search needs
 
-part-step-end : tie.Need-part-step-end Inv-loop μ-loop
-part-step-end c = search needs
-
-step-requires : tie.Need-step-requires Inv-loop μ-loop
-step-requires c κs = search needs
-
-add-at : tie.Need-add-at Inv-loop μ-loop
-add-at c = search needs
+add-i : tie.Need-add-i Inv-loop μ-loop
+add-i c = search needs
 
 loop-less : tie.Need-loop-less Inv-loop μ-loop
 loop-less c = search needs
@@ -49,6 +43,9 @@ same-length c = search needs
 same-length-2 : tie.Need-same-length-2 Inv-loop μ-loop
 same-length-2 c = search needs
 
+same-length-3 : tie.Need-same-length-3 Inv-loop μ-loop
+same-length-3 c = search needs
+
 returns : tie.Need-returns Inv-loop μ-loop
 returns c = search needs
 
@@ -60,14 +57,13 @@ play-spec =
     μ-loop
     fresh-requires
     loop-holds
-    end-requires
-    sub-step
-    part-step-start
-    part-step-end
-    step-requires
-    add-at
+    shared-slice-read-b
+    turn-requires
+    sign-requires
+    add-i
     loop-less
     loop-again
     same-length
     same-length-2
+    same-length-3
     returns)
