@@ -1,0 +1,7 @@
+//! The book against figures worked out by hand.
+mod answers;
+mod days;
+mod desk;
+mod messages;
+mod rows;
+mod slabs;
