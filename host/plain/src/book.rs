@@ -2,9 +2,7 @@
 
 use crate::answer::Answer;
 use crate::cells::{LineCell, RowCell, LINE, ROW};
-use crate::message::{
-    is_text, marks, parse, phase_of, Record, SETS_LAST, SETS_RANGE, TOP_PRICE,
-};
+use crate::message::{is_text, marks, parse, phase_of, Record, SETS_LAST, SETS_RANGE, TOP_PRICE};
 
 /// The greatest number a message can bear.
 const LAST_NUMBER: u64 = 4_294_967_295;
@@ -72,18 +70,14 @@ fn used_lines<'a>(counters: &Counters, lines: &'a [u8]) -> &'a [u8] {
 
 /// Where the first row of a symbol starts.
 fn find_row(used: &[u8], symbol: &[u8; 8]) -> Option<usize> {
-    used.chunks_exact(ROW)
-        .position(|cell| RowCell::has_symbol(cell, symbol))
-        .map(|at| at * ROW)
+    used.chunks_exact(ROW).position(|cell| RowCell::has_symbol(cell, symbol)).map(|at| at * ROW)
 }
 
 /// Where the first line of a key starts, dead or live.
 fn find_line(used: &[u8], centre: u8, control: &[u8; 10]) -> Option<usize> {
     let mut key = [centre; 11];
     key[1..].copy_from_slice(control);
-    used.chunks_exact(LINE)
-        .position(|cell| LineCell::has_key(cell, &key))
-        .map(|at| at * LINE)
+    used.chunks_exact(LINE).position(|cell| LineCell::has_key(cell, &key)).map(|at| at * LINE)
 }
 
 /// Puts a symbol on the day sheet. The lines are lent only to judge whether the book is sound.
@@ -262,12 +256,8 @@ pub fn row(counters: &Counters, rows: &[u8], lines: &[u8], symbol: [u8; 8]) -> (
 
 /// Works a row's figures out from the live lines of its symbol.
 fn work_out(cell: &RowCell, used: &[u8]) -> Row {
-    let mut row = Row {
-        symbol: cell.symbol,
-        close: cell.close,
-        reported: cell.reported,
-        ..Row::default()
-    };
+    let mut row =
+        Row { symbol: cell.symbol, close: cell.close, reported: cell.reported, ..Row::default() };
     // Place and price of the line that gives the last.
     let mut last: Option<(u32, u32)> = None;
     for bytes in used.chunks_exact(LINE) {
@@ -284,7 +274,7 @@ fn work_out(cell: &RowCell, used: &[u8]) -> Row {
             row.low = Some(row.low.map_or(price, |low| low.min(price)));
         }
         // Of equal places the earlier line stays.
-        if marks & SETS_LAST != 0 && last.map_or(true, |(place, _)| line.place > place) {
+        if marks & SETS_LAST != 0 && last.is_none_or(|(place, _)| line.place > place) {
             last = Some((line.place, price));
         }
     }

@@ -52,11 +52,7 @@ const SHEET: [[&[u8]; 3]; 4] = [
     [b" ", b"LZ", b"TU"],
     [b" ABDKSXY", b"", b"HIVW"],
 ];
-const COLUMNS: [u8; 3] = [
-    ON_SHEET | SETS_RANGE | SETS_LAST,
-    ON_SHEET | SETS_RANGE,
-    ON_SHEET,
-];
+const COLUMNS: [u8; 3] = [ON_SHEET | SETS_RANGE | SETS_LAST, ON_SHEET | SETS_RANGE, ON_SHEET];
 
 /// The sheet spread out: level and code to the code's bits, none for a code off the sheet.
 static BITS: [[u8; 256]; 4] = spread();

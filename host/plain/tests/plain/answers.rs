@@ -88,9 +88,14 @@ fn the_last_number_and_after_it() {
     assert_eq!(desk.say(4_294_967_295, &trade(&TRADE)), 0);
     assert_eq!(desk.counters.wanted, 4_294_967_296);
     assert_eq!(desk.lines[31..35], [255; 4]);
-    for (number, answer) in
-        [(0, 1), (1, 2), (4_294_967_294, 2), (4_294_967_295, 2), (4_294_967_296, 1), (4_294_967_297, 1)]
-    {
+    for (number, answer) in [
+        (0, 1),
+        (1, 2),
+        (4_294_967_294, 2),
+        (4_294_967_295, 2),
+        (4_294_967_296, 1),
+        (4_294_967_297, 1),
+    ] {
         assert_eq!(desk.say(number, &trade(&OTHER)), answer, "{number}");
     }
     assert_eq!(desk.row("ABCD").volume, 100);
@@ -226,7 +231,8 @@ fn answer_12_dead_lines_make_no_room() {
 #[test]
 fn answer_13_symbol_and_close() {
     let mut desk = Desk::new(4, 0);
-    for symbol in [*b"        ", *b" ABC    ", *b"A B     ", *b"ABC\x7f    ", *b"ABC\0    ", [0; 8]] {
+    for symbol in [*b"        ", *b" ABC    ", *b"A B     ", *b"ABC\x7f    ", *b"ABC\0    ", [0; 8]]
+    {
         assert_eq!(desk.list_bytes(symbol, 1), 13);
     }
     assert_eq!(desk.list("ABCD", 2_000_000_001), 13);

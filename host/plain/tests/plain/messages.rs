@@ -47,8 +47,12 @@ fn writes(record: Record) -> u8 {
 
 #[test]
 fn every_field_of_t_x_and_c() {
-    let sale =
-        Sale { control: *b"1234567890", price: 0x0102_0304, size: 0xF5F6_F7F8, condition: *b"NOTV" };
+    let sale = Sale {
+        control: *b"1234567890",
+        price: 0x0102_0304,
+        size: 0xF5F6_F7F8,
+        condition: *b"NOTV",
+    };
     let t = Trade {
         time: 0x0405_0607,
         centre: b'X',
@@ -202,8 +206,16 @@ fn any_consolidated_volume() {
 #[test]
 fn texts() {
     let [_, t, x, c, j] = five();
-    let places =
-        [(&t, 6, 8), (&t, 15, 10), (&x, 6, 8), (&x, 15, 10), (&c, 6, 8), (&c, 15, 10), (&c, 37, 10), (&j, 5, 8)];
+    let places = [
+        (&t, 6, 8),
+        (&t, 15, 10),
+        (&x, 6, 8),
+        (&x, 15, 10),
+        (&c, 6, 8),
+        (&c, 15, 10),
+        (&c, 37, 10),
+        (&j, 5, 8),
+    ];
     for (message, at, length) in places {
         for used in 0..=length {
             let mut text = vec![b'!'; used];

@@ -122,9 +122,12 @@ fn summaries_agree_with_the_row_or_not() {
     assert_eq!((desk.row("ABCD").agrees, desk.row("ABCD").reported), (true, Some(9)));
     assert_eq!(desk.next(&trade(&TRADE)), 0);
     assert!(!desk.row("ABCD").agrees);
-    for (high, low, agrees) in
-        [(251_000, 251_000, true), (251_000, 250_999, false), (251_001, 251_000, false), (0, 0, false)]
-    {
+    for (high, low, agrees) in [
+        (251_000, 251_000, true),
+        (251_000, 250_999, false),
+        (251_001, 251_000, false),
+        (0, 0, false),
+    ] {
         assert_eq!(desk.next(&summary("ABCD", high, low, 0, 0)), 0);
         assert_eq!(desk.row("ABCD").agrees, agrees);
     }
@@ -200,8 +203,7 @@ fn the_fullest_book_adds_up() {
 
 #[test]
 fn of_two_lines_with_one_key_the_first_decides() {
-    let (dead, live) =
-        (cell("ABCD", 251_000, b"@   ", 2, 0), cell("ABCD", 251_000, b"@   ", 2, 1));
+    let (dead, live) = (cell("ABCD", 251_000, b"@   ", 2, 0), cell("ABCD", 251_000, b"@   ", 2, 1));
     let named = Trade { size: 10, ..TRADE };
     assert_eq!(book(&[dead.clone(), live.clone()]).next(&cancel(&named)), 9);
     let mut desk = book(&[live.clone(), live.clone()]);
@@ -231,7 +233,10 @@ fn a_row_found_need_not_be_lawful() {
     desk.rows.fill(0xFF);
     assert_eq!(desk.asked([0xFF; 8]), 0);
     let (_, row) = plain::row(&desk.counters, &desk.rows, &desk.lines, [0xFF; 8]);
-    assert_eq!((row.symbol, row.close, row.agrees, row.reported), ([0xFF; 8], u32::MAX, false, None));
+    assert_eq!(
+        (row.symbol, row.close, row.agrees, row.reported),
+        ([0xFF; 8], u32::MAX, false, None)
+    );
 }
 
 #[test]

@@ -4,8 +4,7 @@ use crate::days::{w, w_after};
 use crate::desk::*;
 use plain::fresh;
 
-const ROW_NEW: &[u8; 30] =
-    b"ABCD    \x00\x03\xd0\x90\0\0\0\0\0\0\0\0\0\0\0\0\0\0\0\0\0\0";
+const ROW_NEW: &[u8; 30] = b"ABCD    \x00\x03\xd0\x90\0\0\0\0\0\0\0\0\0\0\0\0\0\0\0\0\0\0";
 const Q1: &[u8; 39] =
     b"Q1         ABCD    \x00\x03\xd4\x78\x00\x00\x00\x64@   \x00\x00\x00\x02\x00\x00\x07\xd0";
 const Q2: &[u8; 39] =
@@ -17,7 +16,8 @@ const Q9: &[u8; 39] =
 
 /// The line room: the given lines with their live marks, then what was there before.
 fn lines(used: &[(&[u8; 39], u8)]) -> Vec<u8> {
-    let mut out: Vec<u8> = used.iter().flat_map(|(line, live)| [&line[..], &[*live]].concat()).collect();
+    let mut out: Vec<u8> =
+        used.iter().flat_map(|(line, live)| [&line[..], &[*live]].concat()).collect();
     out.resize(8 * LINE, 0x5A);
     out
 }
