@@ -203,7 +203,7 @@ pub fn arrivals(dice: &mut Dice, n: usize, trouble: Trouble) -> Vec<usize> {
     copies.into_iter().map(|(_, number)| number).collect()
 }
 
-/// The largest count for which 1, 2, up to it occur in that order among the arrivals.
+/// How many numbers are used up by a book that only ever uses the next one.
 pub fn reach(arrivals: &[usize]) -> usize {
     arrivals.iter().fold(0, |reached, number| reached + usize::from(*number == reached + 1))
 }
