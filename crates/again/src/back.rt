@@ -1,8 +1,7 @@
 // A message read, a record written, and both told.
 use crate::fields;
 use crate::tell;
-use message::Record;
-use message::answer;
+use records::Record;
 
 // What a lent space holds before a record is written.
 pub const MARKER: u8 = 0xee;
@@ -18,7 +17,7 @@ pub fn read(message: &[u8]) -> Record {
     let said = message::read(message);
     let a = said.answer;
     tell::words(b"\nread ");
-    tell::number(answer::number(a) as u64);
+    tell::number(answers::number(a) as u64);
     let found = said.found;
     fields::tell(found);
     found
@@ -27,7 +26,7 @@ pub fn read(message: &[u8]) -> Record {
 pub fn write(r: Record, space: &mut [u8]) {
     let a = message::write(r, space);
     tell::words(b"write ");
-    tell::number(answer::number(a) as u64);
+    tell::number(answers::number(a) as u64);
     tell::words(b"\nspace ");
     tell::hex(space);
     tell::words(b"\n");

@@ -1,7 +1,7 @@
 // A record's fields by name and value.
 use crate::tell;
-use message::Record;
-use message::Sale;
+use records::Record;
+use records::Sale;
 
 pub fn tell(r: Record) {
     head(r);

@@ -2,7 +2,7 @@
 use crate::back;
 use crate::sound;
 use crate::tell;
-use message::Record;
+use records::Record;
 
 pub fn reads() {
     // The last byte of a whole report has no place here.

@@ -12,11 +12,11 @@ use lib.Dec.{eqb, ltb, leb, lit<}
 use lib.ListN.{length, getD}
 use Rattle.octets.specs.Run.{Bytes}
 use Rattle.octets.proofs.Laws.{be-below}
-use Rattle.message.specs.Answers.{numberOf, answerOf}
-use Rattle.message.specs.Fits.{RecordFits}
+use Rattle.answers.specs.Answers.{numberOf, answerOf}
+use Rattle.records.specs.Fits.{RecordFits}
 use Rattle.message.specs.Reading.{readOf}
-use Rattle.message.specs.declared.answer.Answer.{Answer}
-use Rattle.message.specs.declared.Record.{Record}
+use Rattle.answers.specs.declared.Answer.{Answer}
+use Rattle.records.specs.declared.Record.{Record}
 use Rattle.message.proofs.Fitting.{read-fits}
 use Rattle.lines.specs.declared.Line.{Line}
 use Rattle.lines.specs.Lines.{lineFrom, lineLimit, lineAt, noLine, lineIn, lineWith, usedLines, withLine, withDead}

@@ -9,8 +9,8 @@ use borrow.Author.Tests.{eq-eqb, ne-eqb, eqb-true, eqb-false, leb-true, leb-fals
 use lib.Dec.{eqb, ltb, leb}
 use lib.ListN.{length}
 use Rattle.octets.specs.Text.{text}
-use Rattle.message.specs.Answers.{numberOf, answerOf}
-use Rattle.message.specs.declared.answer.Answer.{Answer}
+use Rattle.answers.specs.Answers.{numberOf, answerOf}
+use Rattle.answers.specs.declared.Answer.{Answer}
 use Rattle.message.specs.declared.Reading.{Reading}
 use Rattle.message.specs.Reading.{readOf}
 use Rattle.cells.specs.declared.Found.the-variants.{Nothing, At}

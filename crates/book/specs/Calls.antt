@@ -5,7 +5,7 @@ use mathlib.Core.List.{List, _++_}
 use mathlib.Core.Bool.{cond, _&&_}
 use lib.Dec.{eqb, leb}
 use lib.ListN.{length}
-use Rattle.message.specs.Answers.{answerOf}
+use Rattle.answers.specs.Answers.{answerOf}
 use Rattle.message.specs.Reading.{readOf}
 use Rattle.message.specs.declared.Reading.{Reading}
 use Rattle.lines.specs.Lines.{usedLines, lineLimit, lineWith}

@@ -1,10 +1,10 @@
 // The counters' moves, each returning the new value.
-use message::Record;
-use message::answer::Answer;
+use answers::Answer;
+use records::Record;
 use table::judge::phase_of;
 ghost use mathlib.Core.Path.{_≡_};
 ghost use Prim.Native.Nat.{_+_, _<_, _^_};
-ghost use Rattle.message.specs.Answers.{answerOf};
+ghost use Rattle.answers.specs.Answers.{answerOf};
 ghost use Rattle.book.specs.Counting.{usedUp, advanced, countedTaken, oneRowMore, oneLineMore, takenBy, sound};
 ghost use Rattle.table.specs.Table.{lowest, numberTable};
 

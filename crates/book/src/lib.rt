@@ -2,16 +2,15 @@
 // refused one leaves every lent byte as it was.
 pub mod counters;
 
+use answers::Answer;
 use cells::Found;
 use counters::Counters;
-use message::answer;
-use message::answer::Answer;
 use show::RowShown;
 use table::judge::judge;
 use table::take::take_lines;
 use table::take::take_rows;
 ghost use mathlib.Core.Path.{_≡_};
-ghost use Rattle.message.specs.Answers.{answerOf};
+ghost use Rattle.answers.specs.Answers.{answerOf};
 ghost use Rattle.book.specs.Counting.{freshCounters};
 ghost use Rattle.book.specs.Calls.{numberAnswer, listAnswer, listSaid, listRows, deliverSaid, deliverRows, deliverLines, located, rowShown};
 
@@ -79,7 +78,7 @@ pub fn list(c: Counters, rows: &mut [u8], lines: &[u8], symbol: [u8; 8], close: 
     ensures rows { λ s. ⌜ now (rows .exit) ≡ listRows c (now (rows .entry)) (now (lines .entry)) symbol close ⌝ }
 {
     let a = judge_listing(c, rows, lines, symbol, close);
-    if answer::number(a) != 0 {
+    if answers::number(a) != 0 {
         return Said {
             answer: a,
             counters: c,
@@ -102,7 +101,7 @@ fn use_number(c: Counters, rows: &mut [u8], lines: &mut [u8], message: &[u8]) ->
     let q = message::read(message);
     let v = judge(c.phase, rows, c.rows, lines, c.lines, q);
     let a = v.answer;
-    if answer::number(a) != 0 {
+    if answers::number(a) != 0 {
         return Said {
             answer: a,
             counters: c.use_up(),
@@ -135,7 +134,7 @@ pub fn deliver(c: Counters, rows: &mut [u8], lines: &mut [u8], number: u64, mess
     ensures lines { λ s. ⌜ now (lines .exit) ≡ deliverLines c (now (rows .entry)) (now (lines .entry)) number (now (message .entry)) ⌝ }
 {
     let a = judge_number(c, rows, lines, number);
-    if answer::number(a) != 0 {
+    if answers::number(a) != 0 {
         return Said {
             answer: a,
             counters: c,
@@ -177,7 +176,7 @@ pub fn row(c: Counters, rows: &[u8], lines: &[u8], symbol: [u8; 8]) -> Shown
 {
     let p = find_row(c, rows, lines, symbol);
     let a = p.answer;
-    if answer::number(a) != 0 {
+    if answers::number(a) != 0 {
         return Shown {
             answer: a,
             row: show::nothing(),

@@ -16,7 +16,7 @@ use borrow.Fn.Kinds.{endedOf}
 use denote.Triple.Clauses.{AtExit}
 use denote.Ref.{now}
 use Rattle.octets.specs.Run.{Bytes, tab}
-use Rattle.message.specs.Answers.{answerOf}
+use Rattle.answers.specs.Answers.{answerOf}
 use Rattle.lines.specs.declared.Line.{Line}
 use Rattle.lines.specs.Lines.{lineLimit, usedLines}
 use Rattle.rows.specs.Rows.{rowLimit, usedRows}

@@ -9,10 +9,13 @@ use lib.ListN.{length, getD, set, replicate}
 use lib.Seq.{sets}
 use Rattle.octets.specs.Run.{tab, past, part, Bytes}
 use Rattle.octets.specs.Number.{digits}
-use Rattle.message.specs.declared.Sale.{Sale}
-use Rattle.message.specs.declared.Record.{Record}
+use Rattle.records.specs.declared.Sale.{Sale}
+use Rattle.records.specs.declared.Record.{Record}
 use Rattle.message.specs.declared.Reading.{Reading}
-use Rattle.message.specs.Reading.{noSale, noRecord, saleAt, fieldsS, fieldsTrade, fieldsT, fieldsC, fieldsJ, fieldsOf, lawfulOf, refusedOf, acceptedOf, judgedOf, misshapen, readOf}
+use Rattle.records.specs.Zeros.{noSale, noRecord}
+use Rattle.records.specs.Lawful.{lawfulOf}
+use Rattle.reader.specs.Fields.{saleAt, fieldsS, fieldsTrade, fieldsT, fieldsC, fieldsJ, fieldsOf}
+use Rattle.message.specs.Reading.{refusedOf, acceptedOf, judgedOf, misshapen, readOf}
 use Rattle.lines.specs.declared.Line.{Line}
 use Rattle.lines.specs.Lines.{lineLimit, lineBytes, mark, usedLines, lineWith, lineIn, withLine, withDead}
 use Rattle.table.specs.Messages.{isTrade, isCancel, isCorrection, oldKey, newSale}

@@ -9,7 +9,7 @@ use borrow.Author.Tests.{eqb-true, ne-eqb, not-false, leb-false, ltb-false}
 use lib.Dec.{eqb, ltb, lit<}
 use lib.ListN.{length}
 use Rattle.octets.specs.Text.{text}
-use Rattle.message.specs.declared.Record.{Record}
+use Rattle.records.specs.declared.Record.{Record}
 use Rattle.message.specs.declared.Reading.{Reading}
 use Rattle.lines.specs.declared.Line.{Line}
 use Rattle.lines.specs.Lines.{lineWith}

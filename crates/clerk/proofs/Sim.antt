@@ -12,7 +12,7 @@ use lib.ListN.{length, length-map, length-append}
 use Rattle.octets.specs.Run.{same}
 use Rattle.octets.proofs.Trips.{same-is}
 use Rattle.message.specs.Reading.{readOf}
-use Rattle.message.specs.declared.Record.{Record}
+use Rattle.records.specs.declared.Record.{Record}
 use Rattle.cells.specs.declared.Found.{Found}
 use Rattle.cells.specs.declared.Found.the-variants.{Nothing, At}
 use Rattle.lines.specs.declared.Line.{Line}

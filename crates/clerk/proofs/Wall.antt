@@ -9,8 +9,8 @@ use native.Mathlib.Omega.{arith}
 use lib.ListN.{length, getD}
 use Rattle.octets.specs.Run.{same}
 use Rattle.octets.proofs.Trips.{same-is}
-use Rattle.message.specs.Answers.{answerOf}
-use Rattle.message.specs.declared.answer.Answer.{Answer}
+use Rattle.answers.specs.Answers.{answerOf}
+use Rattle.answers.specs.declared.Answer.{Answer}
 use Rattle.cells.specs.declared.Found.{Found}
 use Rattle.cells.specs.declared.Found.the-variants.{Nothing, At}
 use Rattle.lines.specs.declared.Line.{Line}

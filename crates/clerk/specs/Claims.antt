@@ -5,8 +5,8 @@ use Prim.Native.Nat.{ℕ, zero, suc}
 use mathlib.Core.Path.{_≡_}
 use mathlib.Core.List.{List, [], _∷_, _++_, map}
 use mathlib.Core.Bool.{true, false}
-use Rattle.message.specs.Answers.{answerOf}
-use Rattle.message.specs.declared.answer.Answer.{Answer}
+use Rattle.answers.specs.Answers.{answerOf}
+use Rattle.answers.specs.declared.Answer.{Answer}
 use Rattle.lines.specs.declared.Line.{Line}
 use Rattle.table.specs.Messages.{makesNew, newKey}
 use Rattle.table.specs.Table.{listed}

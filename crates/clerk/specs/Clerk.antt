@@ -8,7 +8,7 @@ use lib.Dec.{eqb}
 use lib.ListN.{length}
 use Rattle.octets.specs.Run.{same}
 use Rattle.message.specs.Reading.{readOf}
-use Rattle.message.specs.declared.Record.{Record}
+use Rattle.records.specs.declared.Record.{Record}
 use Rattle.lines.specs.declared.Line.{Line}
 use Rattle.rows.specs.declared.Row.{Row}
 use Rattle.rows.specs.declared.Summary.{Summary}

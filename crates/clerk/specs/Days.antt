@@ -9,7 +9,7 @@ use mathlib.Core.Bool.{Bool, true, false}
 use lib.IntN.{pos, negsuc}
 use lib.ListN.{getD, replicate}
 use Rattle.octets.specs.Number.{digits}
-use Rattle.message.specs.Answers.{numberOf}
+use Rattle.answers.specs.Answers.{numberOf}
 use Rattle.lines.specs.Lines.{lineLimit}
 use Rattle.rows.specs.Rows.{rowLimit}
 use Rattle.rows.specs.declared.Reported.{Reported}
@@ -26,6 +26,8 @@ use Rattle.octets.specs.Run as Run
 use Rattle.octets.specs.Number as Number
 use Rattle.octets.specs.Text as Text
 use Rattle.sheet.specs.Sheet as Sheet
+use Rattle.records.specs.Lawful as Lawful
+use Rattle.reader.specs.Fields as Fields
 use Rattle.message.specs.Reading as Reading
 use Rattle.cells.specs.Search as Search
 use Rattle.lines.specs.Lines as Lines
@@ -217,7 +219,7 @@ keptAfter day k (n ∷ ns) = keptAfter day (given k n (day n)) ns
 
 unfoldable pub saidBack : Case → List ℕ
 unfolding Run.tab Run.part Number.be Number.digits Text.text Sheet.sheetAt Sheet.marksOf Sheet.conditionMarks
-    Reading.lengthBy Reading.saleAt Reading.fieldsS Reading.fieldsTrade Reading.fieldsJ Reading.fieldsOf Reading.saleOk Reading.saleNone Reading.pricesNone Reading.tradeOk Reading.lawfulS Reading.lawfulT Reading.lawfulC Reading.lawfulJ Reading.lawfulOf Reading.judgedOf Reading.readOf
+    Reading.lengthBy Fields.saleAt Fields.fieldsS Fields.fieldsTrade Fields.fieldsJ Fields.fieldsOf Lawful.saleOk Lawful.saleNone Lawful.pricesNone Lawful.tradeOk Lawful.lawfulS Lawful.lawfulT Lawful.lawfulC Lawful.lawfulJ Lawful.lawfulOf Reading.judgedOf Reading.readOf
     Search.first Lines.lineFrom Lines.lineBytes Lines.usedLines Lines.lineIn Lines.withLine Lines.withDead
     Rows.summaryAt Rows.reportedAt Rows.rowFrom Rows.newRow Rows.reportBytes Rows.summaryBytes Rows.usedRows Rows.rowIn Rows.inRow
     Figures.counts Figures.sold Figures.tally Figures.fold Figures.figuresOf Showing.shownOf

@@ -4,7 +4,6 @@ use crate::tell;
 use book::Said;
 use book::counters::Counters;
 use libc::STDOUT_FILENO;
-use message::answer;
 use octets::number::number4;
 use octets::number::number8;
 use octets::run;
@@ -46,7 +45,7 @@ pub fn write(space: &mut [u8], code: &[u8]) {
     let mut r = sound.found;
     r.event = run::byte(code, 1);
     let a = message::write(r, space);
-    tell::number(b':', answer::number(a) as u64);
+    tell::number(b':', answers::number(a) as u64);
     tell::number(b';', rooms::sum(space));
 }
 
@@ -54,14 +53,14 @@ pub fn write(space: &mut [u8], code: &[u8]) {
 pub fn read(space: &[u8]) {
     let said = message::read(space);
     let a = said.answer;
-    tell::number(b':', answer::number(a) as u64);
+    tell::number(b':', answers::number(a) as u64);
     tell::words(b"\n");
 }
 
 fn after(said: Said, rows: &[u8], lines: &[u8]) -> Counters {
     let a = said.answer;
     let c = said.counters;
-    tell::number(b':', answer::number(a) as u64);
+    tell::number(b':', answers::number(a) as u64);
     state(c, rows, lines);
     c
 }
@@ -81,7 +80,7 @@ pub fn state(c: Counters, rows: &[u8], lines: &[u8]) {
 pub fn row(c: Counters, rows: &[u8], lines: &[u8], code: &[u8]) {
     let said = book::row(c, rows, lines, symbol(code));
     let a = said.answer;
-    tell::number(b':', answer::number(a) as u64);
+    tell::number(b':', answers::number(a) as u64);
     shown(said.row);
 }
 

@@ -1,6 +1,4 @@
 // A message to try: the first `length` of its bytes, printed under the letter `kind`.
-use message::answer;
-
 pub struct Sample {
     pub kind: u8,
     pub bytes: [u8; 80],
@@ -25,7 +23,7 @@ fn answer_to(bytes: &[u8], n: usize) -> u8 {
 fn answer(message: &[u8]) -> u8 {
     let said = message::read(message);
     let a = said.answer;
-    answer::number(a)
+    answers::number(a)
 }
 
 // The message with another byte at a place.

@@ -12,19 +12,24 @@ use lib.Dec.{leb}
 use lib.ListN.{length, take, drop, getD}
 use lib.Seq.{take-at, drop-at}
 use Rattle.octets.specs.Run.{Bytes}
-use Rattle.message.specs.declared.Record.{Record}
+use Rattle.records.specs.declared.Record.{Record}
 use Rattle.message.specs.declared.Reading.{Reading}
-use Rattle.message.specs.declared.answer.Answer.{Answer}
-use Rattle.message.specs.declared.answer.Answer.the-variants.{Done, FieldBroken, NoSpace}
-use Rattle.message.specs.Answers.{numberOf}
-use Rattle.message.specs.Fits.{RecordFits}
+use Rattle.answers.specs.declared.Answer.{Answer}
+use Rattle.answers.specs.declared.Answer.the-variants.{Done, FieldBroken, NoSpace}
+use Rattle.answers.specs.Answers.{numberOf}
+use Rattle.records.specs.Fits.{RecordFits}
 use Rattle.layouts.specs.Layouts.{letterOf, lengthOf, layoutOf, stands, holds, fieldOf, isZero, Each, allFields, lacked, Shaped, Obeys, Lawful}
-use Rattle.message.specs.Reading.{lengthBy, noRecord, fieldsOf, lawfulOf, misshapen, refusedOf, acceptedOf, judgedOf, readOf}
-use Rattle.message.specs.Writing.{bytesOf, writeAnswer, writeOut}
+use Rattle.records.specs.Zeros.{noRecord}
+use Rattle.records.specs.Lawful.{lawfulOf}
+use Rattle.reader.specs.Fields.{fieldsOf}
+use Rattle.message.specs.Reading.{lengthBy, misshapen, refusedOf, acceptedOf, judgedOf, readOf}
+use Rattle.writer.specs.Bytes.{bytesOf}
+use Rattle.message.specs.Writing.{writeAnswer, writeOut}
 use Rattle.layouts.proofs.Letters.{long-letter}
 use Rattle.layouts.proofs.Lawful.{all-each, lawful-is, is-lawful}
 use Rattle.layouts.proofs.Exactly.{letter-of, stood, lacks, shape-parts, shaped-is, is-shaped, obeys-is, is-obeys}
-use Rattle.message.proofs.Stores.{fits-long, bytes-length}
+use Rattle.writer.proofs.Stores.{fits-long}
+use Rattle.message.proofs.Lengths.{bytes-length}
 use Rattle.message.proofs.Said.{Said, unshaped, unkept, obeyed, said}
 use Rattle.layouts.proofs.Trips.{fields-again, bytes-again, letter-again}
 

@@ -5,8 +5,8 @@ use mathlib.Core.Bool.{Bool, true, _&&_, and-true, and-assoc, and-eq-true-iff}
 use mathlib.Core.List.{List, [], _∷_}
 use borrow.Author.Tests.{eq-eqb}
 use lib.Dec.{eqb}
-use Rattle.message.specs.declared.Record.{Record}
-use Rattle.message.specs.Reading.{saleOk, saleNone, pricesNone, tradeOk, lawfulS, lawfulT, lawfulC, lawfulJ, lawfulOf}
+use Rattle.records.specs.declared.Record.{Record}
+use Rattle.records.specs.Lawful.{saleOk, saleNone, pricesNone, tradeOk, lawfulS, lawfulT, lawfulC, lawfulJ, lawfulOf}
 use Rattle.layouts.proofs.Letters.{byType, lawful-by, lawful-typed}
 use Rattle.layouts.specs.Layouts.{Field, Entry, MessageType, S, T, X, C, J, letterOf, layoutOf, holds, fieldOf, keeps, isZero, Each, lacked, Lawful}
 

@@ -6,9 +6,10 @@ use Prim.Native.Nat.{ℕ}
 use native.Mathlib.Omega.{arith}
 use borrow.Author.Tests.{eqb-true}
 use lib.Dec.{eqb}
-use Rattle.message.specs.declared.Record.{Record}
+use Rattle.records.specs.declared.Record.{Record}
 use Rattle.layouts.specs.Layouts.{MessageType, S, T, X, C, J, letterOf, lengthOf}
-use Rattle.message.specs.Reading.{lengthBy, lawfulS, lawfulT, lawfulC, lawfulJ, lawfulOf}
+use Rattle.records.specs.Lawful.{lawfulS, lawfulT, lawfulC, lawfulJ, lawfulOf}
+use Rattle.message.specs.Reading.{lengthBy}
 
 pub data Which (k : ℕ) : Type 0 where
   typed : (t : MessageType) → k ≡ letterOf t → Which k

@@ -11,11 +11,11 @@ use borrow.Fn.Kinds.{endedOf}
 use denote.Triple.Clauses.{AtExit}
 use denote.Ref.{now}
 use Rattle.octets.specs.Run.{Bytes}
-use Rattle.message.specs.declared.Record.{Record}
+use Rattle.records.specs.declared.Record.{Record}
 use Rattle.message.specs.declared.Reading.{Reading}
-use Rattle.message.specs.declared.answer.Answer.{Answer}
-use Rattle.message.specs.Answers.{numberOf}
-use Rattle.message.specs.Fits.{RecordFits}
+use Rattle.answers.specs.declared.Answer.{Answer}
+use Rattle.answers.specs.Answers.{numberOf}
+use Rattle.records.specs.Fits.{RecordFits}
 use Rattle.layouts.specs.Layouts.{lengthOf, Lawful}
 use Rattle.message.specs.Reading.{acceptedOf, readOf}
 use Rattle.message.specs.Writing.{writeAnswer, writeOut}

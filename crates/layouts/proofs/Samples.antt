@@ -11,9 +11,11 @@ use Rattle.octets.specs.Run.{tab, part}
 use Rattle.octets.specs.Number.{be, digits}
 use Rattle.octets.specs.Text.{text}
 use Rattle.sheet.specs.Sheet.{sheetAt, conditionMarks}
-use Rattle.message.specs.Answers.{numberOf}
+use Rattle.answers.specs.Answers.{numberOf}
 use Rattle.layouts.specs.Layouts.{MessageType, S, T, X, C, J, letterOf, Obeys}
-use Rattle.message.specs.Reading.{lengthBy, saleAt, fieldsS, fieldsTrade, fieldsJ, fieldsOf, saleOk, saleNone, pricesNone, tradeOk, lawfulS, lawfulT, lawfulC, lawfulJ, lawfulOf, judgedOf, readOf}
+use Rattle.records.specs.Lawful.{saleOk, saleNone, pricesNone, tradeOk, lawfulS, lawfulT, lawfulC, lawfulJ, lawfulOf}
+use Rattle.reader.specs.Fields.{saleAt, fieldsS, fieldsTrade, fieldsJ, fieldsOf}
+use Rattle.message.specs.Reading.{lengthBy, judgedOf, readOf}
 use Rattle.layouts.proofs.Demand2.{read-exactly}
 
 -- ABCD and four spaces

@@ -14,13 +14,14 @@ use Rattle.octets.specs.Number.{be, digits}
 use Rattle.octets.specs.Text.{all}
 use Rattle.octets.proofs.Laws.{digits-length}
 use Rattle.octets.proofs.Trips.{be-digits, digits-part, alone, link, join, whole, walk, step, here, last, first, zeros}
-use Rattle.message.specs.declared.Sale.{Sale}
-use Rattle.message.specs.declared.Record.{Record}
-use Rattle.message.specs.Fits.{SaleFits, RecordFits}
+use Rattle.records.specs.declared.Sale.{Sale}
+use Rattle.records.specs.declared.Record.{Record}
+use Rattle.records.specs.Fits.{SaleFits, RecordFits}
 use Rattle.layouts.specs.Layouts.{MessageType, S, T, X, C, J, letterOf, lengthOf, layoutOf, lacked, holds, isZero, Each}
-use Rattle.message.specs.Reading.{noSale, saleAt, fieldsS, fieldsTrade, fieldsT, fieldsC, fieldsJ, fieldsOf}
-use Rattle.message.specs.Writing.{saleBytes, headBytes, priceBytes, bytesS, bytesT, bytesC, bytesJ, bytesOf}
-use Rattle.message.proofs.Stores.{sale-length, head-length}
+use Rattle.records.specs.Zeros.{noSale}
+use Rattle.reader.specs.Fields.{saleAt, fieldsS, fieldsTrade, fieldsT, fieldsC, fieldsJ, fieldsOf}
+use Rattle.writer.specs.Bytes.{saleBytes, headBytes, priceBytes, bytesS, bytesT, bytesC, bytesJ, bytesOf}
+use Rattle.writer.proofs.Stores.{sale-length, head-length}
 use Rattle.layouts.proofs.Letters.{byType, chosen-by}
 use Rattle.layouts.proofs.Exactly.{fieldsAs, fields-as, letter-of}
 

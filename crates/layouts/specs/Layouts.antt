@@ -11,8 +11,8 @@ use Rattle.octets.specs.Run.{part}
 use Rattle.octets.specs.Number.{be}
 use Rattle.octets.specs.Text.{all}
 use Rattle.sheet.specs.Sheet.{among}
-use Rattle.message.specs.Rules as Rules
-use Rattle.message.specs.declared.Record.{Record}
+use Rattle.records.specs.Rules as Rules
+use Rattle.records.specs.declared.Record.{Record}
 
 -- ---- the table of layouts
 

@@ -1,4 +1,4 @@
-pub mod Stores
+pub mod Lengths
 pub mod Written
 pub mod Said
 pub mod Fitting

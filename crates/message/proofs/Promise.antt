@@ -2,17 +2,14 @@
 -- that contract as the compiler hands it to a caller: of the arguments, of the result, and of the arguments again as
 -- the call returns.
 -- Assumes nothing.
-use mathlib.Core.Path.{_≡_, refl, ap, sym, _∙_}
-use Prim.Native.Nat.{ℕ}
+use mathlib.Core.Path.{_≡_, refl, sym, _∙_}
 use contract.Lifetimes.{Lfts}
 use borrow.Fn.World.{ArgsD}
 use borrow.Fn.Kinds.{endedOf}
 use denote.Triple.Clauses.{AtExit}
 use denote.Ref.{now}
+use Rattle.answers.specs.declared.Answer.{Answer}
 use Rattle.message.specs.declared.Reading.{Reading}
-use Rattle.message.specs.declared.answer.Answer.{Answer}
-use Rattle.message.specs.declared.answer.Answer.the-variants.{Done, NumberOutside, NumberBelow, NumberAbove, NoType, FieldBroken, NotDue, NotListed, NoLine, LineDead, LineDiffers, KeyUsed, LinesFull, ListingBroken, ListingLate, ListedAlready, RowsFull, Unsound, NoSpace}
-use Rattle.message.specs.Answers.{numberOf, answerOf}
 use Rattle.message.specs.Reading.{readOf}
 use Rattle.message.specs.Writing.{writeAnswer, writeOut}
 use Rattle.message.proofs.read as read
@@ -21,7 +18,6 @@ use Rattle.message.proofs.read.Kinds as read-kinds
 use Rattle.message.proofs.write as write
 use Rattle.message.proofs.write.Reads as write-reads
 use Rattle.message.proofs.write.Kinds as write-kinds
-use Rattle.message.proofs.answer.number.Reads as number-reads
 
 module _ (κs : Lfts 1) (a : ArgsD read.signature κs) where
   -- what `read` tells of a message is what `readOf` says of its bytes, and nothing else
@@ -39,33 +35,3 @@ module _ (κs : Lfts 1) (a : ArgsD write.signature κs) where
   pub write-one : (r r′ : Answer) (s s′ : AtExit (endedOf 1 write-kinds.ps write-kinds.r) κs)
       → write-reads.Learnt κs a r s → write-reads.Learnt κs a r′ s′ → (r ≡ r′) × (now (s .1 .0) ≡ now (s′ .1 .0))
   write-one r r′ s s′ h h′ = (h .0 ∙ sym (h′ .0), h .1 ∙ sym (h′ .1))
-
--- ---- numbers of answers
-
-pub number-one : (a e e′ : Answer) (r r′ : ℕ) → number-reads.Learnt tt (a, tt) r (e, tt) → number-reads.Learnt tt (a, tt) r′ (e′, tt) → r ≡ r′
-number-one a e e′ r r′ h h′ = h ∙ sym h′
-
-number-back : (a : Answer) → answerOf (numberOf a) ≡ a
-number-back Done = refl
-number-back NumberOutside = refl
-number-back NumberBelow = refl
-number-back NumberAbove = refl
-number-back NoType = refl
-number-back FieldBroken = refl
-number-back NotDue = refl
-number-back NotListed = refl
-number-back NoLine = refl
-number-back LineDead = refl
-number-back LineDiffers = refl
-number-back KeyUsed = refl
-number-back LinesFull = refl
-number-back ListingBroken = refl
-number-back ListingLate = refl
-number-back ListedAlready = refl
-number-back RowsFull = refl
-number-back Unsound = refl
-number-back NoSpace = refl
-
--- no two answers share a number
-pub one-number-each : (a b : Answer) → numberOf a ≡ numberOf b → a ≡ b
-one-number-each a b e = sym (number-back a) ∙ ap answerOf e ∙ number-back b

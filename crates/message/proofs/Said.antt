@@ -4,7 +4,9 @@ use mathlib.Core.Path.{_≡_, refl}
 use mathlib.Core.Bool.{Bool, true, false}
 use mathlib.Core.List.{List}
 use Prim.Native.Nat.{ℕ}
-use Rattle.message.specs.Reading.{fieldsOf, lawfulOf, misshapen, refusedOf, acceptedOf, judgedOf, readOf}
+use Rattle.records.specs.Lawful.{lawfulOf}
+use Rattle.reader.specs.Fields.{fieldsOf}
+use Rattle.message.specs.Reading.{misshapen, refusedOf, acceptedOf, judgedOf, readOf}
 
 module _ (m : List ℕ) where
   pub data Said : Type 0 where

@@ -10,11 +10,14 @@ use lib.Dec.{leb}
 use lib.ListN.{length}
 use lib.Seq.{sets}
 use Rattle.octets.proofs.Laws.{sets-front}
-use Rattle.message.specs.declared.Record.{Record}
-use Rattle.message.specs.declared.answer.Answer.the-variants.{Done, FieldBroken, NoSpace}
-use Rattle.message.specs.Reading.{lengthBy, lawfulOf}
-use Rattle.message.specs.Writing.{bytesOf, writeAnswer, writeOut}
-use Rattle.message.proofs.Stores.{Long, bytes-length}
+use Rattle.answers.specs.declared.Answer.the-variants.{Done, FieldBroken, NoSpace}
+use Rattle.records.specs.declared.Record.{Record}
+use Rattle.records.specs.Lawful.{lawfulOf}
+use Rattle.writer.specs.Bytes.{bytesOf}
+use Rattle.writer.proofs.Stores.{Long}
+use Rattle.message.specs.Reading.{lengthBy}
+use Rattle.message.specs.Writing.{writeAnswer, writeOut}
+use Rattle.message.proofs.Lengths.{bytes-length}
 
 module _ (r : Record) (out : List ℕ) where
   abbrev pub room : Bool

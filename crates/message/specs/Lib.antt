@@ -1,5 +1,2 @@
-pub mod Answers
-pub mod Rules
-pub mod Fits
 pub mod Reading
 pub mod Writing

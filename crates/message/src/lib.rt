@@ -1,38 +1,10 @@
 // One message of the feed, read from bytes and written to bytes.
-pub mod answer;
-mod bytes;
-mod fields;
-mod rules;
-
-use answer::Answer;
+use answers::Answer;
+use records::Record;
+use records::Sale;
 ghost use mathlib.Core.Path.{_≡_};
 ghost use Rattle.message.specs.Reading.{lengthBy, readOf, judgedOf, nothingWith};
 ghost use Rattle.message.specs.Writing.{writeAnswer, writeOut};
-
-// What a message says of one trade: 22 bytes that stand alike wherever they occur.
-pub struct Sale {
-    pub control: [u8; 10],
-    pub price: u32,
-    pub size: u32,
-    pub condition: [u8; 4],
-}
-
-// A message. `letter` is its type's letter; `sale` is T's trade, and the original that X and C name; `new` is what C
-// puts in its place. A field that the type lacks is zero.
-pub struct Record {
-    pub letter: u8,
-    pub time: u32,
-    pub event: u8,
-    pub centre: u8,
-    pub symbol: [u8; 8],
-    pub class: u8,
-    pub sale: Sale,
-    pub new: Sale,
-    pub high: u32,
-    pub low: u32,
-    pub close: u32,
-    pub consolidated: u64,
-}
 
 // What reading says back: a record of zeros where the answer is not `Done`.
 pub struct Reading {
@@ -58,8 +30,12 @@ fn length_of(letter: u8) -> usize
 fn refused(a: Answer) -> Reading
     ensures { λ r. ⌜ r ≡ nothingWith a ⌝ }
 {
-    let sale = fields::no_sale();
-    let new = fields::no_sale();
+    let sale = Sale {
+        control: [0u8; 10],
+        price: 0,
+        size: 0,
+        condition: [0u8; 4],
+    };
     let none = Record {
         letter: 0,
         time: 0,
@@ -68,7 +44,7 @@ fn refused(a: Answer) -> Reading
         symbol: [0u8; 8],
         class: 0,
         sale: sale,
-        new: new,
+        new: sale,
         high: 0,
         low: 0,
         close: 0,
@@ -83,7 +59,7 @@ fn refused(a: Answer) -> Reading
 fn judged(r: Record) -> Reading
     ensures { λ o. ⌜ o ≡ judgedOf r ⌝ }
 {
-    if rules::lawful(r) {
+    if records::lawful(r) {
         Reading {
             answer: Answer::Done,
             found: r,
@@ -102,7 +78,7 @@ pub fn read(message: &[u8]) -> Reading
     if (need == 0) | (message.len() != need) {
         return refused(Answer::NoType);
     }
-    judged(fields::fields(message))
+    judged(reader::fields(message))
 }
 
 // The record's bytes at the front of out, the rest of out as it was. Answers 0, 5 or 18; where not 0, out stays.
@@ -111,10 +87,10 @@ pub fn write(r: Record, out: &mut [u8]) -> Answer
     ensures left { λ a. ⌜ now (out .exit) ≡ writeOut r (now (out .entry)) ⌝ }
 {
     let letter = r.letter;
-    let sound = rules::lawful(r);
+    let sound = records::lawful(r);
     let room = length_of(letter) <= out.len();
     if sound & room {
-        bytes::store(out, r);
+        writer::store(out, r);
         return Answer::Done;
     }
     if sound {

@@ -12,9 +12,9 @@ use lib.Seq.{sets}
 use Rattle.octets.specs.Run.{part, same}
 use Rattle.octets.proofs.Laws.{sets-all}
 use Rattle.octets.proofs.Trips.{whole}
-use Rattle.message.specs.Answers.{numberOf, answerOf}
-use Rattle.message.specs.declared.answer.Answer.{Answer}
-use Rattle.message.specs.declared.Record.{Record}
+use Rattle.answers.specs.Answers.{numberOf, answerOf}
+use Rattle.answers.specs.declared.Answer.{Answer}
+use Rattle.records.specs.declared.Record.{Record}
 use Rattle.lines.specs.declared.Line.{Line}
 use Rattle.cells.specs.declared.Found.the-variants.{Nothing, At}
 use Rattle.lines.specs.Lines.{usedLines, lineLimit, lineWith, bears, lineIn, noLine, withLine, withDead}

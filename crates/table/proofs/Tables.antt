@@ -11,12 +11,12 @@ use borrow.Author.Tests.{eqb-true, eqb-false, ne-eqb, ltb-true, ltb-false, le-lt
 use lib.Dec.{eqb, ltb, leb, lit<}
 use lib.ListN.{length, getD, length-map}
 use Rattle.octets.specs.Run.{same}
-use Rattle.message.specs.Answers.{numberOf, answerOf}
+use Rattle.answers.specs.Answers.{numberOf, answerOf}
 use Rattle.message.specs.Reading.{readOf}
-use Rattle.message.specs.declared.Record.{Record}
+use Rattle.records.specs.declared.Record.{Record}
 use Rattle.message.specs.declared.Reading.{Reading}
 use Rattle.message.proofs.Said.{Said, unshaped, unkept, obeyed, said}
-use Rattle.message.proofs.Promise.{one-number-each}
+use Rattle.answers.proofs.Promise.{one-number-each}
 use Rattle.cells.specs.declared.Found.{Found}
 use Rattle.cells.specs.declared.Found.the-variants.{Nothing, At}
 use Rattle.lines.specs.declared.Line.{Line}

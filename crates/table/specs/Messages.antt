@@ -4,8 +4,8 @@ use Prim.Native.Nat.{ℕ}
 use mathlib.Core.List.{List, _∷_}
 use mathlib.Core.Bool.{Bool, cond, _&&_, _||_}
 use lib.Dec.{eqb, ltb}
-use Rattle.message.specs.declared.Sale.{Sale}
-use Rattle.message.specs.declared.Record.{Record}
+use Rattle.records.specs.declared.Sale.{Sale}
+use Rattle.records.specs.declared.Record.{Record}
 use Rattle.octets.specs.Run.{same}
 use Rattle.lines.specs.declared.Line.{Line}
 

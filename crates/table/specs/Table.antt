@@ -9,8 +9,8 @@ use lib.Dec.{eqb, ltb, leb}
 use lib.ListN.{length, getD}
 use Rattle.octets.specs.Run.{same}
 use Rattle.octets.specs.Text.{text}
-use Rattle.message.specs.Answers.{numberOf}
-use Rattle.message.specs.declared.Record.{Record}
+use Rattle.answers.specs.Answers.{numberOf}
+use Rattle.records.specs.declared.Record.{Record}
 use Rattle.message.specs.declared.Reading.{Reading}
 use Rattle.cells.specs.declared.Found.{Found}
 use Rattle.cells.specs.declared.Found.the-variants.{Nothing, At}

@@ -6,9 +6,9 @@ use mathlib.Core.List.{List}
 use mathlib.Core.Bool.{cond}
 use lib.Dec.{eqb, ltb, leb}
 use lib.ListN.{length, getD}
-use Rattle.message.specs.Answers.{numberOf, answerOf}
-use Rattle.message.specs.declared.answer.Answer.{Answer}
-use Rattle.message.specs.declared.Record.{Record}
+use Rattle.answers.specs.Answers.{numberOf, answerOf}
+use Rattle.answers.specs.declared.Answer.{Answer}
+use Rattle.records.specs.declared.Record.{Record}
 use Rattle.message.specs.declared.Reading.{Reading}
 use Rattle.cells.specs.declared.Found.{Found}
 use Rattle.cells.specs.declared.Found.the-variants.{Nothing, At}

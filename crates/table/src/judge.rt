@@ -1,16 +1,15 @@
 // Working the answer table: reads, changes nothing.
+use answers::Answer;
 use cells::Found;
 use lines::Line;
 use message::Reading;
-use message::Record;
-use message::Sale;
-use message::answer;
-use message::answer::Answer;
 use octets::run;
+use records::Record;
+use records::Sale;
 ghost use mathlib.Core.Path.{_≡_};
 ghost use mathlib.Core.List.{_∷_};
 ghost use lib.ListN.{length};
-ghost use Rattle.message.specs.Answers.{answerOf};
+ghost use Rattle.answers.specs.Answers.{answerOf};
 ghost use Rattle.lines.specs.Lines.{usedLines, lineLimit};
 ghost use Rattle.rows.specs.Rows.{usedRows};
 ghost use Rattle.table.specs.Messages as Messages;
@@ -133,7 +132,7 @@ fn judge_trade(lines: &[u8], used: usize, r: Record) -> Verdict
     if (r.letter == b'X') | (r.letter == b'C') {
         let named = judge_named(lines, used, r);
         let a = named.answer;
-        if answer::number(a) != 0 {
+        if answers::number(a) != 0 {
             return named;
         }
         return Verdict {
@@ -209,7 +208,7 @@ pub fn judge(
     ensures { λ v. ⌜ v ≡ Working.judgedBy phase (usedRows (now (rows .entry)) listed) (usedLines (now (lines .entry)) used) (lineLimit (length (now (lines .entry)))) q ⌝ }
 {
     let a = q.answer;
-    if answer::number(a) != 0 {
+    if answers::number(a) != 0 {
         return plainly(a);
     }
     judge_due(phase, rows, listed, lines, used, q.found)

@@ -2,7 +2,7 @@
 use crate::judge::new_key;
 use crate::judge::old_key;
 use lines::Line;
-use message::Record;
+use records::Record;
 ghost use mathlib.Core.Path.{_≡_};
 ghost use Rattle.table.specs.Taking as Taking;
 

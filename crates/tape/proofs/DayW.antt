@@ -4,7 +4,7 @@ use mathlib.Core.Path.{_≡_, refl}
 use mathlib.Core.Bool.{false}
 use lib.IntN.{pos}
 use lib.ListN.{length}
-use Rattle.message.specs.Answers.{answerOf}
+use Rattle.answers.specs.Answers.{answerOf}
 use Rattle.rows.specs.declared.Reported.the-variants.{Volume}
 use Rattle.walk.specs.declared.Price.the-variants.{Of}
 use Rattle.walk.specs.Figures as Figures

@@ -2,9 +2,9 @@
 -- Assumes nothing.
 use mathlib.Core.Path.{sym, _∙_}
 use borrow.Author.Needs.{needs}
-use Rattle.message.proofs.Stores.{fits-long}
+use Rattle.records.specs.Fits.{RecordFits}
+use Rattle.writer.proofs.Stores.{fits-long}
 use Rattle.message.proofs.Written.{written-done, written-short, written-broken}
-use Rattle.message.specs.Fits.{RecordFits}
 use Rattle.message.proofs.write.Statement.{statement}
 use Rattle.message.proofs.write.Tie as tie
 

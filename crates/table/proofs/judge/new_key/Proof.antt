@@ -2,7 +2,7 @@
 -- Assumes nothing.
 use mathlib.Core.Path.{ap, _∙_}
 use mathlib.Core.List.{_∷_}
-use Rattle.message.specs.declared.Sale.{Sale}
+use Rattle.records.specs.declared.Sale.{Sale}
 use borrow.Author.Needs.{needs}
 use Rattle.table.proofs.judge.new_key.Statement.{statement}
 use Rattle.table.proofs.judge.new_key.Tie as tie
