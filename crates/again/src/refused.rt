@@ -12,7 +12,7 @@ pub fn reads() {
     back::read(&cut);
     let mut message = [0u8; 45];
     sound::trade(&mut message, b'T');
-    octets::number::put4(&mut message, 25, 0);
+    numbers::put4(&mut message, 25, 0);
     tell::words(b"T with price 0\n");
     back::read(&message);
 }

@@ -1,6 +1,6 @@
 // A sound message of each type, field by field. No two bytes of a number are equal.
-use octets::number::put4;
-use octets::number::put8;
+use numbers::put4;
+use numbers::put8;
 use octets::run::paste;
 use octets::run::put_byte;
 

@@ -50,7 +50,7 @@ fn judge_listing(c: Counters, rows: &[u8], lines: &[u8], symbol: [u8; 8], close:
     ensures { λ a. ⌜ a ≡ answerOf (listAnswer c (now (rows .entry)) (now (lines .entry)) symbol close) ⌝ }
 {
     if c.is_sound(rows.len(), lines.len()) {
-        if octets::text::is_text(&symbol) & (close <= 2000000000) {
+        if texts::is_text(&symbol) & (close <= 2000000000) {
             if c.wanted != 1 {
                 return Answer::ListingLate;
             }

@@ -1,6 +1,5 @@
 // The bytes that a line of the script stands for. A decimal number in round brackets is one byte, in angular ones four,
 // in curly ones eight, the highest first; any other sign stands for itself.
-use octets::number;
 use octets::run;
 use std::num::wrapping_add_u64;
 use std::num::wrapping_add_usize;
@@ -19,11 +18,11 @@ pub fn sign(pen: Pen, out: &mut [u8], b: u8) -> Pen {
             Pen(wrapping_add_usize(at, 1), 0, false)
         }
         b'>' => {
-            number::put4(out, at, (x % 4294967296) as u32);
+            numbers::put4(out, at, (x % 4294967296) as u32);
             Pen(wrapping_add_usize(at, 4), 0, false)
         }
         b'}' => {
-            number::put8(out, at, x);
+            numbers::put8(out, at, x);
             Pen(wrapping_add_usize(at, 8), 0, false)
         }
         _ => plain(pen, out, b),

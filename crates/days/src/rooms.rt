@@ -1,7 +1,7 @@
 // What the lent bytes hold: whole cells in fields, then the bytes past them.
 use crate::tell;
-use octets::number::number4;
-use octets::number::number8;
+use numbers::number4;
+use numbers::number8;
 use octets::run;
 use std::num::wrapping_add_usize;
 ghost use Prim.Native.Nat.{_<_};

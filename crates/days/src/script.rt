@@ -12,7 +12,7 @@ use crate::play;
 use crate::rooms;
 use crate::tell;
 use book::counters::Counters;
-use octets::number::number8;
+use numbers::number8;
 use octets::run;
 
 // A book's counters, and how many bytes are lent to it.

@@ -1,7 +1,7 @@
 // What the reader takes in each field of each type: every byte value tried at every byte of its letters and texts,
 // its numbers at both ends of their ranges, and every length from 0 to 80.
 mod lengths;
-mod numbers;
+mod ranges;
 mod runs;
 mod sample;
 mod sets;
@@ -33,14 +33,14 @@ fn event() {
     let s = sound::event();
     sets::letter(s, b"type", 4);
     sets::letter(s, b"event", 5);
-    numbers::number(s, b"time", 0, 4, TIME);
+    ranges::number(s, b"time", 0, 4, TIME);
     lengths::every(s);
 }
 
 fn trade(s: Sample) {
     original(s);
     amounts(s);
-    numbers::number(s, b"consolidated", 37, 8, VOLUME);
+    ranges::number(s, b"consolidated", 37, 8, VOLUME);
     lengths::every(s);
 }
 
@@ -50,9 +50,9 @@ fn correction() {
     sets::text(s, b"new control", 37, 10);
     sets::text(s, b"new condition", 55, 4);
     amounts(s);
-    numbers::number(s, b"new price", 47, 4, PRICE);
-    numbers::number(s, b"new size", 51, 4, SIZE);
-    numbers::number(s, b"consolidated", 59, 8, VOLUME);
+    ranges::number(s, b"new price", 47, 4, PRICE);
+    ranges::number(s, b"new size", 51, 4, SIZE);
+    ranges::number(s, b"consolidated", 59, 8, VOLUME);
     lengths::every(s);
 }
 
@@ -61,11 +61,11 @@ fn summary() {
     sets::letter(s, b"type", 4);
     sets::text(s, b"symbol", 5, 8);
     sets::letter(s, b"class", 13);
-    numbers::number(s, b"time", 0, 4, TIME);
-    numbers::number(s, b"high", 14, 4, PRICE);
-    numbers::number(s, b"low", 18, 4, PRICE);
-    numbers::number(s, b"close", 22, 4, PRICE);
-    numbers::number(s, b"consolidated", 26, 8, VOLUME);
+    ranges::number(s, b"time", 0, 4, TIME);
+    ranges::number(s, b"high", 14, 4, PRICE);
+    ranges::number(s, b"low", 18, 4, PRICE);
+    ranges::number(s, b"close", 22, 4, PRICE);
+    ranges::number(s, b"consolidated", 26, 8, VOLUME);
     lengths::every(s);
 }
 
@@ -81,7 +81,7 @@ fn original(s: Sample) {
 
 // The numbers that T, X and C have alike.
 fn amounts(s: Sample) {
-    numbers::number(s, b"time", 0, 4, TIME);
-    numbers::number(s, b"price", 25, 4, PRICE);
-    numbers::number(s, b"size", 29, 4, SIZE);
+    ranges::number(s, b"time", 0, 4, TIME);
+    ranges::number(s, b"price", 25, 4, PRICE);
+    ranges::number(s, b"size", 29, 4, SIZE);
 }

@@ -61,8 +61,8 @@ pub fn with_length(s: Sample, length: usize) -> Sample {
 // Stores a number of four bytes or of eight.
 fn put_number(out: &mut [u8], at: usize, width: usize, x: u64) {
     if width == 4 {
-        octets::number::put4(out, at, (x % 4294967296) as u32);
+        numbers::put4(out, at, (x % 4294967296) as u32);
     } else {
-        octets::number::put8(out, at, x);
+        numbers::put8(out, at, x);
     }
 }

@@ -1,7 +1,7 @@
 // A sound message of each type, field by field.
 use crate::sample::Sample;
-use octets::number::put4;
-use octets::number::put8;
+use numbers::put4;
+use numbers::put8;
 use octets::run::paste;
 use octets::run::put_byte;
 ghost use Prim.Native.Nat.{_<_};

@@ -1,6 +1,6 @@
 // Lines: one cell of 40 bytes for each trade.
 use cells::Found;
-use octets::number::lesser;
+use numbers::lesser;
 ghost use mathlib.Core.Path.{_≡_};
 ghost use Prim.Native.Nat.{_+_, _*_, _≤_};
 ghost use lib.ListN.{length};
@@ -100,11 +100,11 @@ fn read(lines: &[u8], at: usize) -> Line
     Line {
         key: key,
         symbol: symbol,
-        price: octets::number::number4(lines, at + PRICE),
-        size: octets::number::number4(lines, at + SIZE),
+        price: numbers::number4(lines, at + PRICE),
+        size: numbers::number4(lines, at + SIZE),
         condition: condition,
-        place: octets::number::number4(lines, at + PLACE),
-        time: octets::number::number4(lines, at + TIME),
+        place: numbers::number4(lines, at + PLACE),
+        time: numbers::number4(lines, at + TIME),
         live: octets::run::byte(lines, at + LIVE) == 1,
     }
 }
@@ -136,11 +136,11 @@ fn store(lines: &mut [u8], at: usize, l: Line)
     let condition = l.condition;
     octets::run::paste(lines, at, &key);
     octets::run::paste(lines, at + SYMBOL, &symbol);
-    octets::number::put4(lines, at + PRICE, l.price);
-    octets::number::put4(lines, at + SIZE, l.size);
+    numbers::put4(lines, at + PRICE, l.price);
+    numbers::put4(lines, at + SIZE, l.size);
     octets::run::paste(lines, at + CONDITION, &condition);
-    octets::number::put4(lines, at + PLACE, l.place);
-    octets::number::put4(lines, at + TIME, l.time);
+    numbers::put4(lines, at + PLACE, l.place);
+    numbers::put4(lines, at + TIME, l.time);
     octets::run::put_byte(lines, at + LIVE, mark_of(l.live));
 }
 

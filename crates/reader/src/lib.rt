@@ -1,6 +1,6 @@
 // The record that a message's bytes fill, type by type, before any rule is asked.
-use octets::number::number4;
-use octets::number::number8;
+use numbers::number4;
+use numbers::number8;
 use octets::run::byte;
 use octets::run::fill;
 use records::Record;

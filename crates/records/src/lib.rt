@@ -1,6 +1,6 @@
 // A message as a record, the field rules, and whether a record keeps those of its type.
-use octets::text::is_all;
-use octets::text::is_text;
+use texts::is_all;
+use texts::is_text;
 ghost use mathlib.Core.Path.{_≡_};
 ghost use Rattle.records.specs.Rules as Rules;
 ghost use Rattle.records.specs.Lawful as R;

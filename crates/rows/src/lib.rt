@@ -1,6 +1,6 @@
 // Rows: one cell of 30 bytes for each listed symbol.
 use cells::Found;
-use octets::number::lesser;
+use numbers::lesser;
 ghost use mathlib.Core.Path.{_≡_};
 ghost use Prim.Native.Nat.{_+_, _*_, _≤_};
 ghost use lib.ListN.{length};
@@ -70,8 +70,8 @@ fn summary_at(rows: &[u8], at: usize) -> Summary
     requires { ⌜ at + 30 ≤ length (now rows) ⌝ }
     ensures { λ r. ⌜ r ≡ summaryAt (now (rows .entry)) at ⌝ }
 {
-    let high = octets::number::number4(rows, at + HIGH);
-    let low = octets::number::number4(rows, at + LOW);
+    let high = numbers::number4(rows, at + HIGH);
+    let low = numbers::number4(rows, at + LOW);
     if octets::run::byte(rows, at + SUMMARY) == 1 {
         Summary::HighLow(high, low)
     } else {
@@ -83,7 +83,7 @@ fn reported_at(rows: &[u8], at: usize) -> Reported
     requires { ⌜ at + 30 ≤ length (now rows) ⌝ }
     ensures { λ r. ⌜ r ≡ reportedAt (now (rows .entry)) at ⌝ }
 {
-    let volume = octets::number::number8(rows, at + VOLUME);
+    let volume = numbers::number8(rows, at + VOLUME);
     if octets::run::byte(rows, at + REPORTED) == 1 {
         Reported::Volume(volume)
     } else {
@@ -100,7 +100,7 @@ fn read(rows: &[u8], at: usize) -> Row
     octets::run::fill(&mut symbol, rows, at);
     Row {
         symbol: symbol,
-        close: octets::number::number4(rows, at + CLOSE),
+        close: numbers::number4(rows, at + CLOSE),
         summary: summary_at(rows, at),
         reported: reported_at(rows, at),
     }
@@ -136,7 +136,7 @@ pub fn put(rows: &mut [u8], i: usize, symbol: [u8; 8], close: u32)
         let at = i * CELL;
         let rest = [0u8; 18];
         octets::run::paste(rows, at, &symbol);
-        octets::number::put4(rows, at + CLOSE, close);
+        numbers::put4(rows, at + CLOSE, close);
         octets::run::paste(rows, at + SUMMARY, &rest);
     }
 }
@@ -148,7 +148,7 @@ pub fn report(rows: &mut [u8], i: usize, volume: u64)
     if i < limit(rows.len()) {
         let at = i * CELL;
         octets::run::put_byte(rows, at + REPORTED, 1);
-        octets::number::put8(rows, at + VOLUME, volume);
+        numbers::put8(rows, at + VOLUME, volume);
     }
 }
 
@@ -159,7 +159,7 @@ pub fn summarise(rows: &mut [u8], i: usize, high: u32, low: u32)
     if i < limit(rows.len()) {
         let at = i * CELL;
         octets::run::put_byte(rows, at + SUMMARY, 1);
-        octets::number::put4(rows, at + HIGH, high);
-        octets::number::put4(rows, at + LOW, low);
+        numbers::put4(rows, at + HIGH, high);
+        numbers::put4(rows, at + LOW, low);
     }
 }

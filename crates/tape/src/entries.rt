@@ -1,7 +1,7 @@
 // One entry of a tape: what stands at a place, and what the book is told of it.
 use crate::Stop;
 use book::counters::Counters;
-use octets::number::number4;
+use numbers::number4;
 use octets::run::byte;
 use octets::run::fill;
 ghost use mathlib.Core.Path.{_≡_};

@@ -109,9 +109,9 @@ fn with_line(t: Figures, lines: &[u8], at: usize, symbol: [u8; 8]) -> Figures
     if octets::run::same_at(lines, at + SYMBOL, &symbol) {
         let mut condition = [0u8; 4];
         octets::run::fill(&mut condition, lines, at + CONDITION);
-        let price = octets::number::number4(lines, at + PRICE);
-        let size = octets::number::number4(lines, at + SIZE);
-        let place = octets::number::number4(lines, at + PLACE);
+        let price = numbers::number4(lines, at + PRICE);
+        let size = numbers::number4(lines, at + SIZE);
+        let place = numbers::number4(lines, at + PLACE);
         with_sale(t, price, size, place, sheet::condition_marks(condition))
     } else {
         t

@@ -4,7 +4,7 @@ use crate::input::Tape;
 use book::counters::Counters;
 use libc::STDERR_FILENO;
 use libc::STDOUT_FILENO;
-use octets::number::lesser;
+use numbers::lesser;
 
 pub fn print(reading: Reading, rows: &[u8], lines: &[u8]) {
     let c = reading.counters;

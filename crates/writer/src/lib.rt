@@ -1,6 +1,6 @@
 // A record's bytes, stored field by field at the front of lent bytes.
-use octets::number::put4;
-use octets::number::put8;
+use numbers::put4;
+use numbers::put8;
 use octets::run::paste;
 use octets::run::put_byte;
 use records::Record;
