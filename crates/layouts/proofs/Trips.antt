@@ -37,7 +37,7 @@ bytes-as r k e = chosen-by (r .letter) k e (bytesS r) (bytesT r) (bytesC r) (byt
 -- ---- read, then written
 
 module _ (m : List ℕ) (b : Bytes m) where
-  sale-again : (at : ℕ) → saleBytes (saleAt m at) ≡ part m at 22
+  pub sale-again : (at : ℕ) → saleBytes (saleAt m at) ≡ part m at 22
   unfolding saleBytes saleAt
   sale-again at =
       rw (
@@ -110,20 +110,20 @@ sale-of : (s : Sale) (c : List ℕ) (p z : ℕ) (d : List ℕ) → c ≡ s .cont
     → _≡_ {A = Sale} (record { control = c; price = p; size = z; condition = d }) s
 sale-of s c p z d e f g h = rw (e, f, g, h)
 
-record-of : (r : Record) (k t e c : ℕ) (y : List ℕ) (l : ℕ) (o n : Sale) (h w z v : ℕ)
+pub record-of : (r : Record) (k t e c : ℕ) (y : List ℕ) (l : ℕ) (o n : Sale) (h w z v : ℕ)
     → k ≡ r .letter → t ≡ r .time → e ≡ r .event → c ≡ r .centre → y ≡ r .symbol → l ≡ r .class → o ≡ r .sale → n ≡ r .new → h ≡ r .high → w ≡ r .low → z ≡ r .close → v ≡ r .consolidated
     → _≡_ {A = Record}
     (record { letter = k; time = t; event = e; centre = c; symbol = y; class = l; sale = o; new = n; high = h; low = w; close = z; consolidated = v }) r
 record-of r k t e c y l o n h w z v p1 p2 p3 p4 p5 p6 p7 p8 p9 p10 p11 p12 = rw (p1, p2, p3, p4, p5, p6, p7, p8, p9, p10, p11, p12)
 
 -- a number that was written is read
-number-here : (m : List ℕ) (at w x : ℕ) (ys : List ℕ) → x < 256 ^ w → drop at m ≡ digits w x ++ ys → be (part m at w) ≡ x
+pub number-here : (m : List ℕ) (at w x : ℕ) (ys : List ℕ) → x < 256 ^ w → drop at m ≡ digits w x ++ ys → be (part m at w) ≡ x
 number-here m at w x ys h d = ap be (here m at w (digits w x) ys d (digits-length w x)) ∙ be-digits w x h
 
-number-last : (m : List ℕ) (at w x : ℕ) → x < 256 ^ w → drop at m ≡ digits w x → be (part m at w) ≡ x
+pub number-last : (m : List ℕ) (at w x : ℕ) → x < 256 ^ w → drop at m ≡ digits w x → be (part m at w) ≡ x
 number-last m at w x h d = ap be (last m at w (digits w x) d (digits-length w x)) ∙ be-digits w x h
 
-sale-here : (m : List ℕ) (n : ℕ) (s : Sale) (ys : List ℕ) → SaleFits s → drop n m ≡ saleBytes s ++ ys → saleAt m n ≡ s
+pub sale-here : (m : List ℕ) (n : ℕ) (s : Sale) (ys : List ℕ) → SaleFits s → drop n m ≡ saleBytes s ++ ys → saleAt m n ≡ s
 unfolding saleAt saleBytes
 sale-here m n s ys t d =
     let p = digits 4 (s .price) in

@@ -1,0 +1,6 @@
+pub mod Signed
+pub mod Stores
+pub mod Again
+pub mod Told
+pub mod Fitting
+pub mod Promise

@@ -1,0 +1,17 @@
+-- The word of a number of 64 signed bits is its two's complement, as the machine works it out.
+-- Assumes nothing.
+use Prim.Native.Nat.{ℕ, _-_, _<_, _^_}
+use mathlib.Core.Path.{_≡_, ap}
+use mathlib.Core.Bool.{true, false}
+use lib.IntN.{ℤ, pos, negsuc, natAbs}
+use lib.Signed.{mag, ltZ}
+use Rattle.decimal.proofs.Signed.{held, left, held-is, size-held, not-below, not-above}
+use Rattle.words.specs.Words.{signedWord}
+
+pub below-word : (z : ℤ) → mag z < 2 ^ 63 → ltZ (held z) (pos 0) ≡ true → 18446744073709551615 - natAbs (held (left (held z))) ≡ signedWord z
+below-word (pos a) h t = absurd (not-below a (rw (held-is (pos a) h) at t))
+below-word (negsuc a) h t = ap (λ (y : ℤ). 18446744073709551615 - natAbs y) (size-held a h)
+
+pub above-word : (z : ℤ) → mag z < 2 ^ 63 → ltZ (held z) (pos 0) ≡ false → natAbs (held z) ≡ signedWord z
+above-word (pos a) h t = ap natAbs (held-is (pos a) h)
+above-word (negsuc a) h t = absurd (not-above a (rw (held-is (negsuc a) h) at t))

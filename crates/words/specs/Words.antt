@@ -1,0 +1,114 @@
+-- How the book's values travel to and from a program of another language: which word, or which byte, is which.
+-- Assumes nothing.
+use Prim.Native.Nat.{ℕ, _-_}
+use mathlib.Core.List.{List, [], _∷_, _++_}
+use mathlib.Core.Bool.{cond}
+use lib.IntN.{ℤ, pos, negsuc}
+use lib.ListN.{getD}
+use Rattle.octets.specs.Run.{part}
+use Rattle.octets.specs.Number.{be, digits}
+use Rattle.message.specs.Reading.{saleAt}
+use Rattle.message.specs.Writing.{saleBytes}
+use Rattle.message.specs.declared.Record.{Record}
+use Rattle.book.specs.declared.counters.Counters.{Counters}
+use Rattle.walk.specs.declared.Price.{Price}
+use Rattle.walk.specs.declared.Price.the-variants.{Absent, Of}
+use Rattle.rows.specs.declared.Reported.{Reported}
+use Rattle.rows.specs.declared.Reported.the-variants.{NotSet, Volume}
+use Rattle.show.specs.declared.Net.{Net}
+use Rattle.show.specs.declared.Net.the-variants.{NoNet, Amount}
+use Rattle.show.specs.declared.RowShown.{RowShown}
+
+-- ---- counters: five words
+
+-- 0 wanted number, 1 phase, 2 rows used, 3 lines used, 4 messages taken
+unfoldable pub counterWords : Counters → List ℕ
+counterWords c = c .wanted ∷ c .phase ∷ c .rows ∷ c .lines ∷ c .taken ∷ []
+
+-- the same words, read
+unfoldable pub countersOf : List ℕ → Counters
+countersOf w = record { wanted = getD w 0 0; phase = getD w 1 0; rows = getD w 2 0; lines = getD w 3 0; taken = getD w 4 0 }
+
+-- ---- a row: fifteen words; a figure that may be absent is a mark, 1 where it is there, and the figure, 0 where it is not
+
+abbrev pub priceMark : Price → ℕ
+priceMark Absent = 0
+priceMark (Of p) = 1
+
+abbrev pub priceWord : Price → ℕ
+priceWord Absent = 0
+priceWord (Of p) = p
+
+-- two's complement in 64 bits
+abbrev pub signedWord : ℤ → ℕ
+signedWord (pos n) = n
+signedWord (negsuc n) = 18446744073709551615 - n
+
+abbrev pub netMark : Net → ℕ
+netMark NoNet = 0
+netMark (Amount x) = 1
+
+abbrev pub netWord : Net → ℕ
+netWord NoNet = 0
+netWord (Amount x) = signedWord x
+
+abbrev pub reportedMark : Reported → ℕ
+reportedMark NotSet = 0
+reportedMark (Volume v) = 1
+
+abbrev pub reportedWord : Reported → ℕ
+reportedWord NotSet = 0
+reportedWord (Volume v) = v
+
+-- 0 the symbol's eight bytes as one number, 1 close, 2 3 last, 4 5 high, 6 7 low, 8 9 net change, 10 volume, 11 count, 12 agrees,
+-- 13 14 reported consolidated volume
+unfoldable pub rowWords : RowShown → List ℕ
+rowWords r =
+    be (r .symbol)
+    ∷ r .close
+    ∷ priceMark (r .last)
+    ∷ priceWord (r .last)
+    ∷ priceMark (r .high)
+    ∷ priceWord (r .high)
+    ∷ priceMark (r .low)
+    ∷ priceWord (r .low)
+    ∷ netMark (r .net)
+    ∷ netWord (r .net)
+    ∷ r .volume
+    ∷ r .count
+    ∷ cond (r .agrees) 1 0
+    ∷ reportedMark (r .reported)
+    ∷ reportedWord (r .reported)
+    ∷ []
+
+-- ---- a record: eighty bytes, every field of every type at one offset
+
+-- letter 0, time 1/4, event 5, centre 6, symbol 7/8, class 15
+unfoldable pub frontBytes : Record → List ℕ
+frontBytes r = r .letter ∷ (digits 4 (r .time) ++ (r .event ∷ r .centre ∷ (r .symbol ++ (r .class ∷ []))))
+
+-- high 60/4, low 64/4, close 68/4, consolidated 72/8
+unfoldable pub endBytes : Record → List ℕ
+endBytes r = digits 4 (r .high) ++ (digits 4 (r .low) ++ (digits 4 (r .close) ++ digits 8 (r .consolidated)))
+
+-- the trade, or the original, 16/22, and the new trade 38/22 between them; a trade is control 10, price 4, size 4, condition 4
+unfoldable pub recordBytes : Record → List ℕ
+recordBytes r = frontBytes r ++ (saleBytes (r .sale) ++ (saleBytes (r .new) ++ endBytes r))
+
+-- the same bytes, read
+unfoldable pub recordOf : List ℕ → Record
+recordOf b =
+    record {
+      letter = getD b 0 0;
+      time = be (part b 1 4);
+      event = getD b 5 0;
+      centre = getD b 6 0;
+      symbol = part b 7 8;
+      class = getD b 15 0;
+      sale = saleAt b 16;
+      new = saleAt b 38;
+      high = be (part b 60 4);
+      low = be (part b 64 4);
+      close = be (part b 68 4);
+      consolidated = be (part b 72 8);
+    }
