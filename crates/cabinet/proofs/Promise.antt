@@ -1,0 +1,86 @@
+-- Each exported function's contract leaves one possible answer and one possible content for each lent word or byte. `Learnt` is
+-- that contract as the compiler hands it to a caller: of the arguments, of the result, and of the arguments again as the
+-- call returns.
+-- Assumes nothing.
+use mathlib.Core.Path.{_≡_, ap, sym, _∙_}
+use mathlib.Core.List.{_++_}
+use Prim.Native.Nat.{ℕ, _≤_}
+use lib.ListN.{length, drop}
+use contract.Lifetimes.{Lfts}
+use borrow.Fn.World.{ArgsD}
+use borrow.Fn.Kinds.{endedOf}
+use denote.Triple.Clauses.{AtExit}
+use denote.Ref.{now}
+use Rattle.octets.specs.Run.{Bytes}
+use Rattle.message.specs.declared.Record.{Record}
+use Rattle.message.specs.Answers.{numberOf}
+use Rattle.message.specs.Reading.{readOf}
+use Rattle.message.specs.Writing.{writeAnswer, writeOut}
+use Rattle.message.proofs.Fitting.{read-fits}
+use Rattle.layouts.proofs.Demand2.{read-again}
+use Rattle.words.specs.Words.{recordOf}
+use Rattle.words.proofs.Again.{record-again}
+use Rattle.cabinet.proofs.sorundappa_start as start
+use Rattle.cabinet.proofs.sorundappa_start.Reads as start-reads
+use Rattle.cabinet.proofs.sorundappa_start.Kinds as start-kinds
+use Rattle.cabinet.proofs.sorundappa_list as list
+use Rattle.cabinet.proofs.sorundappa_list.Reads as list-reads
+use Rattle.cabinet.proofs.sorundappa_list.Kinds as list-kinds
+use Rattle.cabinet.proofs.sorundappa_deliver as deliver
+use Rattle.cabinet.proofs.sorundappa_deliver.Reads as deliver-reads
+use Rattle.cabinet.proofs.sorundappa_deliver.Kinds as deliver-kinds
+use Rattle.cabinet.proofs.sorundappa_row as row
+use Rattle.cabinet.proofs.sorundappa_row.Reads as row-reads
+use Rattle.cabinet.proofs.sorundappa_row.Kinds as row-kinds
+use Rattle.cabinet.proofs.sorundappa_read as read
+use Rattle.cabinet.proofs.sorundappa_read.Reads as read-reads
+use Rattle.cabinet.proofs.sorundappa_read.Kinds as read-kinds
+use Rattle.cabinet.proofs.sorundappa_write as write
+use Rattle.cabinet.proofs.sorundappa_write.Reads as write-reads
+use Rattle.cabinet.proofs.sorundappa_write.Kinds as write-kinds
+use Rattle.cabinet.proofs.sorundappa_size.Reads as size-reads
+
+pub start-one : (κs : Lfts 1) (a : ArgsD start.signature κs) (r r′ : Unit) (s s′ : AtExit (endedOf 1 start-kinds.ps start-kinds.r) κs)
+    → start-reads.Learnt κs a r s → start-reads.Learnt κs a r′ s′ → now (s .0) ≡ now (s′ .0)
+start-one κs a r r′ s s′ h h′ = h ∙ sym h′
+
+pub list-one : (κs : Lfts 4) (a : ArgsD list.signature κs) (r r′ : ℕ) (s s′ : AtExit (endedOf 4 list-kinds.ps list-kinds.r) κs)
+    → list-reads.Learnt κs a r s → list-reads.Learnt κs a r′ s′ → (r ≡ r′) × (now (s .0) ≡ now (s′ .0)) × (now (s .1 .0) ≡ now (s′ .1 .0))
+list-one κs a r r′ s s′ h h′ = (h .0 ∙ sym (h′ .0), h .1 .0 ∙ sym (h′ .1 .0), h .1 .1 ∙ sym (h′ .1 .1))
+
+pub deliver-one : (κs : Lfts 4) (a : ArgsD deliver.signature κs) (r r′ : ℕ) (s s′ : AtExit (endedOf 4 deliver-kinds.ps deliver-kinds.r) κs)
+    → deliver-reads.Learnt κs a r s → deliver-reads.Learnt κs a r′ s′
+    → (r ≡ r′) × (now (s .0) ≡ now (s′ .0)) × (now (s .1 .0) ≡ now (s′ .1 .0)) × (now (s .1 .1 .0) ≡ now (s′ .1 .1 .0))
+deliver-one κs a r r′ s s′ h h′ = (h .0 ∙ sym (h′ .0), h .1 .0 ∙ sym (h′ .1 .0), h .1 .1 .0 ∙ sym (h′ .1 .1 .0), h .1 .1 .1 ∙ sym (h′ .1 .1 .1))
+
+pub row-one : (κs : Lfts 5) (a : ArgsD row.signature κs) (r r′ : ℕ) (s s′ : AtExit (endedOf 5 row-kinds.ps row-kinds.r) κs)
+    → row-reads.Learnt κs a r s → row-reads.Learnt κs a r′ s′ → (r ≡ r′) × (now (s .1 .1 .1 .1 .0) ≡ now (s′ .1 .1 .1 .1 .0))
+row-one κs a r r′ s s′ h h′ = (h .0 ∙ sym (h′ .0), h .1 ∙ sym (h′ .1))
+
+pub read-one : (κs : Lfts 2) (a : ArgsD read.signature κs) (r r′ : ℕ) (s s′ : AtExit (endedOf 2 read-kinds.ps read-kinds.r) κs)
+    → read-reads.Learnt κs a r s → read-reads.Learnt κs a r′ s′ → (r ≡ r′) × (now (s .1 .0) ≡ now (s′ .1 .0))
+read-one κs a r r′ s s′ h h′ = (h .0 ∙ sym (h′ .0), h .1 ∙ sym (h′ .1))
+
+pub write-one : (κs : Lfts 2) (a : ArgsD write.signature κs) (r r′ : ℕ) (s s′ : AtExit (endedOf 2 write-kinds.ps write-kinds.r) κs)
+    → write-reads.Learnt κs a r s → write-reads.Learnt κs a r′ s′ → (r ≡ r′) × (now (s .1 .0) ≡ now (s′ .1 .0))
+write-one κs a r r′ s s′ h h′ = (h .0 ∙ sym (h′ .0), h .1 ∙ sym (h′ .1))
+
+pub size-one : (which which₁ which₂ r r′ : ℕ) → size-reads.Learnt tt (which, tt) r (which₁, tt) → size-reads.Learnt tt (which, tt) r′ (which₂, tt) → r ≡ r′
+size-one which which₁ which₂ r r′ h h′ = h ∙ sym h′
+
+-- ---- there and back, of calls
+
+-- a message that was read is written again from the 80 bytes of its record, wherever there is room; the bytes past it stay
+pub written-back : (κs κs′ : Lfts 2) (a : ArgsD read.signature κs) (b : ArgsD write.signature κs′)
+    (r : ℕ) (s : AtExit (endedOf 2 read-kinds.ps read-kinds.r) κs) (w : ℕ) (x : AtExit (endedOf 2 write-kinds.ps write-kinds.r) κs′)
+    → read-reads.Learnt κs a r s → write-reads.Learnt κs′ b w x → now (b .0) ≡ now (s .1 .0)
+    → Bytes (now (a .0)) → r ≡ 0 → length (now (a .0)) ≤ length (now (b .1 .0))
+    → (w ≡ 0) × (now (x .1 .0) ≡ now (a .0) ++ drop (length (now (a .0))) (now (b .1 .0)))
+written-back κs κs′ a b r s w x h k e m z l =
+    let out = now (b .1 .0) in
+    let q = readOf (now (a .0)) .found in
+    let f : recordOf (now (b .0)) ≡ q = ap recordOf (e ∙ h .1) ∙ record-again q (read-fits (now (a .0)) m) in
+    let g = read-again (now (a .0)) out m (sym (h .0) ∙ z) l in (
+      k .0 ∙ ap (λ (o : Record). numberOf (writeAnswer o out)) f ∙ g .0,
+      k .1 ∙ ap (λ (o : Record). writeOut o out) f ∙ g .1,
+    )

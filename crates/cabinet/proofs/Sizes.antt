@@ -1,0 +1,48 @@
+-- The sizes that a caller is told are those that the book, the reader and the records have.
+-- Assumes nothing.
+use Prim.Native.Nat.{ℕ, _/_, _≤_, min}
+use mathlib.Core.Path.{_≡_, refl}
+use mathlib.Core.Bool.{Bool, true, false, cond}
+use lib.Dec.{eqb, lit≤}
+use lib.ListN.{length, List·getD-eq-default}
+use Rattle.message.specs.declared.Record.{Record}
+use Rattle.message.specs.Fits.{RecordFits}
+use Rattle.message.specs.Reading.{lengthBy}
+use Rattle.message.proofs.Stores.{fits-long}
+use Rattle.rows.specs.Rows.{rowLimit}
+use Rattle.lines.specs.Lines.{lineLimit}
+use Rattle.words.specs.Words.{recordBytes}
+use Rattle.words.proofs.Stores.{record-length}
+use Rattle.cabinet.specs.Sizes.{sizes, sizeOf}
+
+-- past the end of the list
+pub size-none : (which : ℕ) → 6 ≤ which → sizeOf which ≡ 0
+unfolding sizeOf
+size-none which h = List·getD-eq-default sizes 0 h
+
+-- a room of so many bytes has so many rows or lines; no message is longer, and a C is as long; a record is as long
+pub record SizesAre : Type 0 where
+  pub rows : (room : ℕ) → rowLimit room ≡ min (sizeOf 1) (room / sizeOf 0)
+  pub lines : (room : ℕ) → lineLimit room ≡ min (sizeOf 3) (room / sizeOf 2)
+  pub longest : (letter : ℕ) → lengthBy letter ≤ sizeOf 4
+  pub attained : lengthBy 67 ≡ sizeOf 4
+  pub bytes : (r : Record) → RecordFits r → length (recordBytes r) ≡ sizeOf 5
+
+either : (t : Bool) (a b n : ℕ) → a ≤ n → b ≤ n → cond t a b ≤ n
+either true a b n h k = h
+either false a b n h k = k
+
+pub sizes-are : SizesAre
+unfolding sizeOf lengthBy
+sizes-are =
+    record {
+      rows = λ room. refl;
+      lines = λ room. refl;
+      longest =
+          λ k.
+          either (eqb k 83) 6 _ 67 (lit≤ tt)
+          (either (eqb k 84) 45 _ 67 (lit≤ tt)
+          (either (eqb k 88) 45 _ 67 (lit≤ tt) (either (eqb k 67) 67 _ 67 (lit≤ tt) (either (eqb k 74) 34 0 67 (lit≤ tt) (lit≤ tt)))));
+      attained = refl;
+      bytes = λ r g. record-length r (fits-long r g);
+    }

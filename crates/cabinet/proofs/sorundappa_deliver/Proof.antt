@@ -1,0 +1,41 @@
+-- `cabinet::sorundappa_deliver` meets its contract.
+-- Assumes nothing.
+use Rattle.cabinet.proofs.Calls.{deliver-told}
+use borrow.Author.Needs.{needs}
+use Rattle.cabinet.proofs.sorundappa_deliver.Statement.{statement}
+use Rattle.cabinet.proofs.sorundappa_deliver.Tie as tie
+
+counters-requires : tie.Need-counters-requires
+counters-requires c κs = search needs
+
+deliver-requires : tie.Need-deliver-requires
+deliver-requires c κs = search needs
+
+put-counters-requires : tie.Need-put-counters-requires
+put-counters-requires c κs = search needs
+
+number-requires : tie.Need-number-requires
+number-requires c κs = search needs
+
+same-length : tie.Need-same-length
+same-length c = search needs
+
+same-length-2 : tie.Need-same-length-2
+same-length-2 c = search needs
+
+returns : tie.Need-returns
+returns c =
+    let a = c .before .before .before .before .before .before .before .before .before .before .before .before .before .before .before .before .args in
+    deliver-told (a .counters .now) (a .rows .now) (a .lines .now) (c .before .before .before .before .before .before .before .before .before .before .before .counters .ensures) (a .number) (a .message .now) (c .before .before .before .before .before .before .before .before .deliver .ensures) (c .before .put-counters .ensures) (c .number .ensures)
+
+pub sorundappa-deliver-spec : {M : Type 1} → statement M
+sorundappa-deliver-spec =
+    tie.close
+    (tie.spec
+    counters-requires
+    deliver-requires
+    put-counters-requires
+    number-requires
+    same-length
+    same-length-2
+    returns)

@@ -1,0 +1,37 @@
+-- `cabinet::sorundappa_list` meets its contract.
+-- Assumes nothing.
+use Rattle.cabinet.proofs.Calls.{list-told}
+use borrow.Author.Needs.{needs}
+use Rattle.cabinet.proofs.sorundappa_list.Statement.{statement}
+use Rattle.cabinet.proofs.sorundappa_list.Tie as tie
+
+counters-requires : tie.Need-counters-requires
+counters-requires c κs = search needs
+
+list-requires : tie.Need-list-requires
+list-requires c κs = search needs
+
+put-counters-requires : tie.Need-put-counters-requires
+put-counters-requires c κs = search needs
+
+number-requires : tie.Need-number-requires
+number-requires c κs = search needs
+
+same-length : tie.Need-same-length
+same-length c = search needs
+
+returns : tie.Need-returns
+returns c =
+    let a = c .before .before .before .before .before .before .before .before .before .before .before .before .before .args in
+    list-told (a .counters .now) (a .rows .now) (a .lines .now) (c .before .before .before .before .before .before .before .before .counters .ensures) (a .symbol .now) (a .close) (c .before .before .before .before .before .before .list .ensures) (c .before .put-counters .ensures) (c .number .ensures)
+
+pub sorundappa-list-spec : {M : Type 1} → statement M
+sorundappa-list-spec =
+    tie.close
+    (tie.spec
+    counters-requires
+    list-requires
+    put-counters-requires
+    number-requires
+    same-length
+    returns)

@@ -1,0 +1,27 @@
+-- `cabinet::sorundappa_row` meets its contract.
+-- Assumes nothing.
+use Rattle.cabinet.proofs.Calls.{row-told}
+use borrow.Author.Needs.{needs}
+use Rattle.cabinet.proofs.sorundappa_row.Statement.{statement}
+use Rattle.cabinet.proofs.sorundappa_row.Tie as tie
+
+counters-requires : tie.Need-counters-requires
+counters-requires c κs = search needs
+
+row-requires : tie.Need-row-requires
+row-requires c κs = search needs
+
+put-row-requires : tie.Need-put-row-requires
+put-row-requires c κs = search needs
+
+number-requires : tie.Need-number-requires
+number-requires c κs = search needs
+
+returns : tie.Need-returns
+returns c =
+    let a = c .before .before .before .before .before .before .before .before .before .args in
+    row-told (a .counters .now) (a .rows .now) (a .lines .now) (c .before .before .before .before .before .counters .ensures) (a .symbol .now) (c .before .before .before .before .row .ensures) (c .before .put-row .ensures) (c .number .ensures)
+
+pub sorundappa-row-spec : {M : Type 1} → statement M
+sorundappa-row-spec =
+    tie.close (tie.spec counters-requires row-requires put-row-requires number-requires returns)

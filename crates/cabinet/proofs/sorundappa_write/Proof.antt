@@ -1,0 +1,27 @@
+-- `cabinet::sorundappa_write` meets its contract.
+-- Assumes nothing.
+use Rattle.cabinet.proofs.Calls.{write-told}
+use borrow.Author.Needs.{needs}
+use Rattle.cabinet.proofs.sorundappa_write.Statement.{statement}
+use Rattle.cabinet.proofs.sorundappa_write.Tie as tie
+
+record-requires : tie.Need-record-requires
+record-requires c κs = search needs
+
+write-requires : tie.Need-write-requires
+write-requires c κs = search needs
+
+number-requires : tie.Need-number-requires
+number-requires c κs = search needs
+
+same-length : tie.Need-same-length
+same-length c = search needs
+
+returns : tie.Need-returns
+returns c =
+    let a = c .before .before .before .before .before .before .before .args in
+    write-told (a .bytes .now) (a .out .now) (c .before .before .before .before .before .«record» .ensures) (c .before .before .before .write .ensures) (c .number .ensures)
+
+pub sorundappa-write-spec : {M : Type 1} → statement M
+sorundappa-write-spec =
+    tie.close (tie.spec record-requires write-requires number-requires same-length returns)

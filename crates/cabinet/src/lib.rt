@@ -1,0 +1,125 @@
+// The library as C and Rust link it. Every function takes any counters, any bytes and any slices, asks nothing of its caller,
+// and answers a number of document 01's table. `include/sorundappa.h` says the same in C.
+use message::answer;
+ghost use mathlib.Core.Path.{_≡_};
+ghost use Rattle.message.specs.Answers.{numberOf};
+ghost use Rattle.message.specs.Reading.{readOf};
+ghost use Rattle.message.specs.Writing.{writeAnswer, writeOut};
+ghost use Rattle.book.specs.Counting.{freshCounters};
+ghost use Rattle.book.specs.Calls.{listSaid, listRows, deliverSaid, deliverRows, deliverLines, rowShown};
+ghost use Rattle.words.specs.Words.{countersOf, counterWords, rowWords, recordOf, recordBytes};
+ghost use Rattle.cabinet.specs.Sizes.{sizeOf};
+
+// The words of a fresh book. No lent byte is written.
+#[no_mangle]
+pub extern "C" fn sorundappa_start(counters: &mut [u64; 5])
+    ensures { λ _. ⌜ now (counters .exit) ≡ counterWords freshCounters ⌝ }
+{
+    let c = book::fresh();
+    words::put_counters(counters, c);
+}
+
+// Lists a symbol with its close. Answers 0 or 13 to 17.
+#[no_mangle]
+pub extern "C" fn sorundappa_list(
+    counters: &mut [u64; 5],
+    rows: &mut [u8],
+    lines: &[u8],
+    symbol: &[u8; 8],
+    close: u32,
+) -> u8
+    ensures answer { λ a. ⌜ a ≡ numberOf (listSaid (countersOf (now (counters .entry))) (now (rows .entry)) (now (lines .entry)) (now (symbol .entry)) close .answer) ⌝ }
+    ensures counters { λ a. ⌜ now (counters .exit) ≡ counterWords (listSaid (countersOf (now (counters .entry))) (now (rows .entry)) (now (lines .entry)) (now (symbol .entry)) close .counters) ⌝ }
+    ensures rows { λ a. ⌜ now (rows .exit) ≡ listRows (countersOf (now (counters .entry))) (now (rows .entry)) (now (lines .entry)) (now (symbol .entry)) close ⌝ }
+{
+    let name = *symbol;
+    let before = words::counters(counters);
+    let s = book::list(before, rows, lines, name, close);
+    let a = s.answer;
+    let listed = s.counters;
+    words::put_counters(counters, listed);
+    answer::number(a)
+}
+
+// Delivers a message under its number. Answers 0 to 12 or 17.
+#[no_mangle]
+pub extern "C" fn sorundappa_deliver(
+    counters: &mut [u64; 5],
+    rows: &mut [u8],
+    lines: &mut [u8],
+    number: u64,
+    message: &[u8],
+) -> u8
+    ensures answer { λ a. ⌜ a ≡ numberOf (deliverSaid (countersOf (now (counters .entry))) (now (rows .entry)) (now (lines .entry)) number (now (message .entry)) .answer) ⌝ }
+    ensures counters { λ a. ⌜ now (counters .exit) ≡ counterWords (deliverSaid (countersOf (now (counters .entry))) (now (rows .entry)) (now (lines .entry)) number (now (message .entry)) .counters) ⌝ }
+    ensures rows { λ a. ⌜ now (rows .exit) ≡ deliverRows (countersOf (now (counters .entry))) (now (rows .entry)) (now (lines .entry)) number (now (message .entry)) ⌝ }
+    ensures lines { λ a. ⌜ now (lines .exit) ≡ deliverLines (countersOf (now (counters .entry))) (now (rows .entry)) (now (lines .entry)) number (now (message .entry)) ⌝ }
+{
+    let before = words::counters(counters);
+    let s = book::deliver(before, rows, lines, number, message);
+    let a = s.answer;
+    let after = s.counters;
+    words::put_counters(counters, after);
+    answer::number(a)
+}
+
+// Reads the row of a symbol. Answers 0, 7 or 17; where not 0, every word is 0.
+#[no_mangle]
+pub extern "C" fn sorundappa_row(
+    counters: &[u64; 5],
+    rows: &[u8],
+    lines: &[u8],
+    symbol: &[u8; 8],
+    row: &mut [u64; 15],
+) -> u8
+    ensures answer { λ a. ⌜ a ≡ numberOf (rowShown (countersOf (now (counters .entry))) (now (rows .entry)) (now (lines .entry)) (now (symbol .entry)) .answer) ⌝ }
+    ensures row { λ a. ⌜ now (row .exit) ≡ rowWords (rowShown (countersOf (now (counters .entry))) (now (rows .entry)) (now (lines .entry)) (now (symbol .entry)) .row) ⌝ }
+{
+    let name = *symbol;
+    let c = words::counters(counters);
+    let s = book::row(c, rows, lines, name);
+    let a = s.answer;
+    let shown = s.row;
+    words::put_row(row, shown);
+    answer::number(a)
+}
+
+// Reads a message alone. Answers 0, 4 or 5; where not 0, every byte of the record is 0.
+#[no_mangle]
+pub extern "C" fn sorundappa_read(message: &[u8], out: &mut [u8; 80]) -> u8
+    ensures answer { λ a. ⌜ a ≡ numberOf (readOf (now (message .entry)) .answer) ⌝ }
+    ensures bytes { λ a. ⌜ now (out .exit) ≡ recordBytes (readOf (now (message .entry)) .found) ⌝ }
+{
+    let q = message::read(message);
+    let a = q.answer;
+    let found = q.found;
+    words::put_record(out, found);
+    answer::number(a)
+}
+
+// Writes a record's message. Answers 0, 5 or 18; where not 0, out stays as it was.
+#[no_mangle]
+pub extern "C" fn sorundappa_write(bytes: &[u8; 80], out: &mut [u8]) -> u8
+    ensures answer { λ a. ⌜ a ≡ numberOf (writeAnswer (recordOf (now (bytes .entry))) (now (out .entry))) ⌝ }
+    ensures out { λ a. ⌜ now (out .exit) ≡ writeOut (recordOf (now (bytes .entry))) (now (out .entry)) ⌝ }
+{
+    let r = words::record(bytes);
+    let a = message::write(r, out);
+    answer::number(a)
+}
+
+// A size that a caller needs, by its place in the list of sizes; 0 past the end of the list.
+#[no_mangle]
+pub extern "C" fn sorundappa_size(which: u64) -> u64
+    ensures { λ n. ⌜ n ≡ sizeOf which ⌝ }
+{
+    match which {
+        0 => 30,
+        1 => 256,
+        2 => 40,
+        3 => 65536,
+        4 => 67,
+        5 => 80,
+        _ => 0,
+    }
+}

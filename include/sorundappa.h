@@ -1,0 +1,127 @@
+/* The book of one trading day, as a program in C links it: libcabinet.a. Every function is proved for every input
+ * (docs/PROMISES.md); none asks anything of its caller beyond C's own rules: each pointer is good for its length, pieces that
+ * are written do not overlap others, and a length of 0 still comes with a pointer that is not null.
+ *
+ * The caller owns all memory: five words of counters, and two runs of bytes for rows and lines. Nothing is allocated, nothing is
+ * kept between calls, and no byte outside what was lent is read or written.
+ */
+#ifndef SORUNDAPPA_H
+#define SORUNDAPPA_H
+
+#include <stddef.h>
+#include <stdint.h>
+
+#ifdef __cplusplus
+extern "C" {
+#endif
+
+/* Answers: the numbers of the table in document 01. */
+enum sorundappa_answer {
+    SORUNDAPPA_DONE = 0,
+    SORUNDAPPA_NUMBER_OUTSIDE = 1,  /* the number is 0 or above 4,294,967,295 */
+    SORUNDAPPA_NUMBER_BELOW = 2,    /* the number is below the wanted one */
+    SORUNDAPPA_NUMBER_ABOVE = 3,    /* the number is above the wanted one */
+    SORUNDAPPA_NO_TYPE = 4,         /* no such type, or not its length */
+    SORUNDAPPA_FIELD_BROKEN = 5,    /* a field breaks its rule */
+    SORUNDAPPA_NOT_DUE = 6,         /* the event or message is not due in this phase */
+    SORUNDAPPA_NOT_LISTED = 7,      /* the symbol is not on the sheet */
+    SORUNDAPPA_NO_LINE = 8,         /* X, C: no line bears the original's key */
+    SORUNDAPPA_LINE_DEAD = 9,       /* X, C: that line is dead */
+    SORUNDAPPA_LINE_DIFFERS = 10,   /* X, C: symbol, price, size or condition differs */
+    SORUNDAPPA_KEY_USED = 11,       /* T, C: the new key is on a line already */
+    SORUNDAPPA_LINES_FULL = 12,     /* T, C: every line is used */
+    SORUNDAPPA_LISTING_BROKEN = 13, /* listing: symbol or close breaks its rule */
+    SORUNDAPPA_LISTING_LATE = 14,   /* listing: a number was used up already */
+    SORUNDAPPA_LISTED_ALREADY = 15, /* listing: the symbol is on the sheet already */
+    SORUNDAPPA_ROWS_FULL = 16,      /* listing: every row is used */
+    SORUNDAPPA_UNSOUND = 17,        /* the book is unsound */
+    SORUNDAPPA_NO_SPACE = 18        /* writer: the lent space is shorter than the message */
+};
+
+/* The words of a book's counters. A phase is 0 before any event was taken, then 1 to 6 for O S Q M E C. */
+enum sorundappa_counter {
+    SORUNDAPPA_WANTED,
+    SORUNDAPPA_PHASE,
+    SORUNDAPPA_ROWS,
+    SORUNDAPPA_LINES,
+    SORUNDAPPA_TAKEN,
+    SORUNDAPPA_COUNTERS
+};
+
+/* The words of a row. A HAS word is 1 where the figure behind it is there, and 0, with a figure of 0, where it is absent.
+ * The symbol is its eight bytes as one number, the first the highest; the net change is an int64_t's bits. Prices are in
+ * ten-thousandths. */
+enum sorundappa_figure {
+    SORUNDAPPA_SYMBOL,
+    SORUNDAPPA_CLOSE,
+    SORUNDAPPA_HAS_LAST,
+    SORUNDAPPA_LAST,
+    SORUNDAPPA_HAS_HIGH,
+    SORUNDAPPA_HIGH,
+    SORUNDAPPA_HAS_LOW,
+    SORUNDAPPA_LOW,
+    SORUNDAPPA_HAS_NET,
+    SORUNDAPPA_NET,
+    SORUNDAPPA_VOLUME,
+    SORUNDAPPA_COUNT,
+    SORUNDAPPA_AGREES,
+    SORUNDAPPA_HAS_REPORTED,
+    SORUNDAPPA_REPORTED,
+    SORUNDAPPA_FIGURES
+};
+
+/* Where each field stands in a record's bytes; numbers are big-endian, a field that the type lacks is zero. A trade is control 10,
+ * price 4, size 4, condition 4. */
+enum sorundappa_field {
+    SORUNDAPPA_LETTER_AT = 0,
+    SORUNDAPPA_TIME_AT = 1,
+    SORUNDAPPA_EVENT_AT = 5,
+    SORUNDAPPA_CENTRE_AT = 6,
+    SORUNDAPPA_SYMBOL_AT = 7,
+    SORUNDAPPA_CLASS_AT = 15,
+    SORUNDAPPA_SALE_AT = 16, /* T's trade; the original that X and C name */
+    SORUNDAPPA_NEW_AT = 38,  /* what C puts in its place */
+    SORUNDAPPA_HIGH_AT = 60,
+    SORUNDAPPA_LOW_AT = 64,
+    SORUNDAPPA_CLOSE_AT = 68,
+    SORUNDAPPA_CONSOLIDATED_AT = 72,
+    SORUNDAPPA_RECORD = 80
+};
+
+/* What sorundappa_size tells, and the values that this header was written for. */
+enum sorundappa_which { SORUNDAPPA_SIZE_ROW, SORUNDAPPA_SIZE_ROWS, SORUNDAPPA_SIZE_LINE, SORUNDAPPA_SIZE_LINES, SORUNDAPPA_SIZE_MESSAGE, SORUNDAPPA_SIZE_RECORD };
+#define SORUNDAPPA_ROW_BYTES 30      /* of a row's cell */
+#define SORUNDAPPA_MOST_ROWS 256
+#define SORUNDAPPA_LINE_BYTES 40     /* of a line's cell */
+#define SORUNDAPPA_MOST_LINES 65536
+#define SORUNDAPPA_LONGEST_MESSAGE 67
+
+/* Makes the counters those of a fresh book. What stands in the rooms is not read until it is written. */
+void sorundappa_start(uint64_t counters[SORUNDAPPA_COUNTERS]);
+
+/* Lists a symbol with its close, 0 if unknown: 0, or 13 to 17 and nothing changed. */
+uint8_t sorundappa_list(uint64_t counters[SORUNDAPPA_COUNTERS], uint8_t *rows, size_t rows_bytes, const uint8_t *lines,
+                        size_t lines_bytes, const uint8_t symbol[8], uint32_t close);
+
+/* Delivers a message under its number: 0 and the message taken; 1, 2, 3 or 17 and nothing changed; 4 to 12 and the number used up. */
+uint8_t sorundappa_deliver(uint64_t counters[SORUNDAPPA_COUNTERS], uint8_t *rows, size_t rows_bytes, uint8_t *lines,
+                           size_t lines_bytes, uint64_t number, const uint8_t *message, size_t message_bytes);
+
+/* Reads a symbol's row: 0; or 7 or 17 and every word 0. */
+uint8_t sorundappa_row(const uint64_t counters[SORUNDAPPA_COUNTERS], const uint8_t *rows, size_t rows_bytes, const uint8_t *lines,
+                       size_t lines_bytes, const uint8_t symbol[8], uint64_t row[SORUNDAPPA_FIGURES]);
+
+/* Reads a message alone: 0; or 4 or 5 and every byte of the record 0. */
+uint8_t sorundappa_read(const uint8_t *message, size_t message_bytes, uint8_t record[SORUNDAPPA_RECORD]);
+
+/* Writes a record's message to the front of out: 0; or 5 or 18 and out as it was. */
+uint8_t sorundappa_write(const uint8_t record[SORUNDAPPA_RECORD], uint8_t *out, size_t out_bytes);
+
+/* One of the sizes above, as the linked library has it; 0 for any other which. */
+uint64_t sorundappa_size(uint64_t which);
+
+#ifdef __cplusplus
+}
+#endif
+
+#endif
