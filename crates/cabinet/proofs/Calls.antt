@@ -3,10 +3,10 @@
 use Prim.Native.Nat.{ℕ}
 use mathlib.Core.Path.{_≡_, ap, _∙_}
 use mathlib.Core.List.{List}
-use Rattle.message.specs.declared.Record.{Record}
+use Rattle.records.specs.declared.Record.{Record}
 use Rattle.message.specs.declared.Reading.{Reading}
-use Rattle.message.specs.declared.answer.Answer.{Answer}
-use Rattle.message.specs.Answers.{numberOf}
+use Rattle.answers.specs.declared.Answer.{Answer}
+use Rattle.answers.specs.Answers.{numberOf}
 use Rattle.message.specs.Reading.{readOf}
 use Rattle.message.specs.Writing.{writeAnswer, writeOut}
 use Rattle.book.specs.declared.counters.Counters.{Counters}

@@ -12,8 +12,8 @@ use borrow.Fn.Kinds.{endedOf}
 use denote.Triple.Clauses.{AtExit}
 use denote.Ref.{now}
 use Rattle.octets.specs.Run.{Bytes}
-use Rattle.message.specs.declared.Record.{Record}
-use Rattle.message.specs.Answers.{numberOf}
+use Rattle.records.specs.declared.Record.{Record}
+use Rattle.answers.specs.Answers.{numberOf}
 use Rattle.message.specs.Reading.{readOf}
 use Rattle.message.specs.Writing.{writeAnswer, writeOut}
 use Rattle.message.proofs.Fitting.{read-fits}

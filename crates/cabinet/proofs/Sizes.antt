@@ -5,10 +5,10 @@ use mathlib.Core.Path.{_≡_, refl}
 use mathlib.Core.Bool.{Bool, true, false, cond}
 use lib.Dec.{eqb, lit≤}
 use lib.ListN.{length, List·getD-eq-default}
-use Rattle.message.specs.declared.Record.{Record}
-use Rattle.message.specs.Fits.{RecordFits}
+use Rattle.records.specs.declared.Record.{Record}
+use Rattle.records.specs.Fits.{RecordFits}
 use Rattle.message.specs.Reading.{lengthBy}
-use Rattle.message.proofs.Stores.{fits-long}
+use Rattle.writer.proofs.Stores.{fits-long}
 use Rattle.rows.specs.Rows.{rowLimit}
 use Rattle.lines.specs.Lines.{lineLimit}
 use Rattle.words.specs.Words.{recordBytes}

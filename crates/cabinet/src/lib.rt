@@ -1,8 +1,7 @@
 // The library as C and Rust link it. Every function takes any counters, any bytes and any slices, asks nothing of its caller,
 // and answers a number of document 01's table. `include/sorundappa.h` says the same in C.
-use message::answer;
 ghost use mathlib.Core.Path.{_≡_};
-ghost use Rattle.message.specs.Answers.{numberOf};
+ghost use Rattle.answers.specs.Answers.{numberOf};
 ghost use Rattle.message.specs.Reading.{readOf};
 ghost use Rattle.message.specs.Writing.{writeAnswer, writeOut};
 ghost use Rattle.book.specs.Counting.{freshCounters};
@@ -38,7 +37,7 @@ pub extern "C" fn sorundappa_list(
     let a = s.answer;
     let listed = s.counters;
     words::put_counters(counters, listed);
-    answer::number(a)
+    answers::number(a)
 }
 
 // Delivers a message under its number. Answers 0 to 12 or 17.
@@ -60,7 +59,7 @@ pub extern "C" fn sorundappa_deliver(
     let a = s.answer;
     let after = s.counters;
     words::put_counters(counters, after);
-    answer::number(a)
+    answers::number(a)
 }
 
 // Reads the row of a symbol. Answers 0, 7 or 17; where not 0, every word is 0.
@@ -81,7 +80,7 @@ pub extern "C" fn sorundappa_row(
     let a = s.answer;
     let shown = s.row;
     words::put_row(row, shown);
-    answer::number(a)
+    answers::number(a)
 }
 
 // Reads a message alone. Answers 0, 4 or 5; where not 0, every byte of the record is 0.
@@ -94,7 +93,7 @@ pub extern "C" fn sorundappa_read(message: &[u8], out: &mut [u8; 80]) -> u8
     let a = q.answer;
     let found = q.found;
     words::put_record(out, found);
-    answer::number(a)
+    answers::number(a)
 }
 
 // Writes a record's message. Answers 0, 5 or 18; where not 0, out stays as it was.
@@ -105,7 +104,7 @@ pub extern "C" fn sorundappa_write(bytes: &[u8; 80], out: &mut [u8]) -> u8
 {
     let r = words::record(bytes);
     let a = message::write(r, out);
-    answer::number(a)
+    answers::number(a)
 }
 
 // A size that a caller needs, by its place in the list of sizes; 0 past the end of the list.

@@ -9,10 +9,10 @@ use Rattle.octets.specs.Run.{part, Bytes}
 use Rattle.octets.specs.Number.{digits}
 use Rattle.octets.proofs.Laws.{digits-length}
 use Rattle.octets.proofs.Trips.{digits-part, alone, link, join, whole, walk, step, here, first}
-use Rattle.message.specs.declared.Record.{Record}
-use Rattle.message.specs.Fits.{RecordFits}
-use Rattle.message.specs.Writing.{saleBytes}
-use Rattle.message.proofs.Stores.{fits-long}
+use Rattle.records.specs.declared.Record.{Record}
+use Rattle.records.specs.Fits.{RecordFits}
+use Rattle.writer.specs.Bytes.{saleBytes}
+use Rattle.writer.proofs.Stores.{fits-long}
 use Rattle.layouts.proofs.Trips.{sale-again, record-of, number-here, number-last, sale-here}
 use Rattle.book.specs.declared.counters.Counters.{Counters}
 use Rattle.words.specs.Words.{counterWords, countersOf, frontBytes, endBytes, recordBytes, recordOf}

@@ -9,7 +9,7 @@ use borrow.Fn.Kinds.{endedOf}
 use denote.Triple.Clauses.{AtExit}
 use denote.Ref.{now}
 use Rattle.book.specs.declared.counters.Counters.{Counters}
-use Rattle.message.specs.declared.Record.{Record}
+use Rattle.records.specs.declared.Record.{Record}
 use Rattle.words.specs.Words.{counterWords, countersOf, rowWords, recordBytes, recordOf}
 use Rattle.words.proofs.counters as counters
 use Rattle.words.proofs.counters.Reads as counters-reads

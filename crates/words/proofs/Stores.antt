@@ -8,9 +8,9 @@ use lib.ListN.{length, set, length-append, replicate}
 use lib.Seq.{sets}
 use Rattle.octets.specs.Number.{digits}
 use Rattle.octets.proofs.Laws.{sets-then, sets-all, digits-length}
-use Rattle.message.specs.declared.Record.{Record}
-use Rattle.message.specs.Writing.{saleBytes}
-use Rattle.message.proofs.Stores.{Long}
+use Rattle.records.specs.declared.Record.{Record}
+use Rattle.writer.specs.Bytes.{saleBytes}
+use Rattle.writer.proofs.Stores.{Long}
 use Rattle.words.specs.Words.{frontBytes, endBytes, recordBytes}
 
 -- ---- lengths

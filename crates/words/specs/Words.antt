@@ -7,9 +7,9 @@ use lib.IntN.{ℤ, pos, negsuc}
 use lib.ListN.{getD}
 use Rattle.octets.specs.Run.{part}
 use Rattle.octets.specs.Number.{be, digits}
-use Rattle.message.specs.Reading.{saleAt}
-use Rattle.message.specs.Writing.{saleBytes}
-use Rattle.message.specs.declared.Record.{Record}
+use Rattle.reader.specs.Fields.{saleAt}
+use Rattle.writer.specs.Bytes.{saleBytes}
+use Rattle.records.specs.declared.Record.{Record}
 use Rattle.book.specs.declared.counters.Counters.{Counters}
 use Rattle.walk.specs.declared.Price.{Price}
 use Rattle.walk.specs.declared.Price.the-variants.{Absent, Of}

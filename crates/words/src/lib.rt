@@ -1,25 +1,24 @@
 // The book's values as a program of another language passes them: counters and a row as words of 64 bits, a record as 80
 // bytes. Which word or byte is which is said in `specs/Words.antt` and nowhere else.
 use book::counters::Counters;
-use message::Record;
-use message::Sale;
-use octets::number::number4;
-use octets::number::number8;
-use octets::number::put4;
-use octets::number::put8;
+use numbers::number4;
+use numbers::number8;
+use numbers::put4;
+use numbers::put8;
 use octets::run::byte;
 use octets::run::fill;
 use octets::run::paste;
 use octets::run::put_byte;
+use reader::sale_at;
+use records::Record;
 use rows::Reported;
 use show::Net;
 use show::RowShown;
 use walk::Price;
+use writer::put_sale;
 ghost use mathlib.Core.Path.{_≡_};
 ghost use mathlib.Core.Bool.{cond};
 ghost use lib.Seq.{sets};
-ghost use Rattle.message.specs.Reading.{saleAt};
-ghost use Rattle.message.specs.Writing.{saleBytes};
 ghost use Rattle.words.specs.Words as W;
 
 // A word as a count: both have 64 bits.
@@ -150,25 +149,6 @@ pub fn put_row(w: &mut [u64; 15], r: RowShown)
     ];
 }
 
-// Control, price, size and condition, from a place on.
-fn sale_at(b: &[u8], at: u8) -> Sale
-    ensures { λ s. ⌜ s ≡ saleAt (now (b .entry)) at ⌝ }
-{
-    let from = at as usize;
-    let mut control = [0u8; 10];
-    fill(&mut control, b, from);
-    let price = number4(b, from + 10);
-    let size = number4(b, from + 14);
-    let mut condition = [0u8; 4];
-    fill(&mut condition, b, from + 18);
-    Sale {
-        control: control,
-        price: price,
-        size: size,
-        condition: condition,
-    }
-}
-
 // The record that stands at the front of bytes.
 fn record_in(b: &[u8]) -> Record
     ensures { λ r. ⌜ r ≡ W.recordOf (now (b .entry)) ⌝ }
@@ -207,18 +187,6 @@ pub fn record(b: &[u8; 80]) -> Record
     ensures { λ r. ⌜ r ≡ W.recordOf (now (b .entry)) ⌝ }
 {
     record_in(b)
-}
-
-fn put_sale(b: &mut [u8], at: u8, s: Sale)
-    ensures { λ _. ⌜ now (b .exit) ≡ sets (now (b .entry)) at (saleBytes s) ⌝ }
-{
-    let from = at as usize;
-    let control = s.control;
-    let condition = s.condition;
-    paste(b, from, &control);
-    put4(b, from + 10, s.price);
-    put4(b, from + 14, s.size);
-    paste(b, from + 18, &condition);
 }
 
 // The first 16 bytes: letter, time, event, centre, symbol, class.

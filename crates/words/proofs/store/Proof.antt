@@ -1,7 +1,7 @@
 -- `words::store` meets its contract.
 -- Assumes nothing.
-use Rattle.message.specs.Fits.{RecordFits}
-use Rattle.message.proofs.Stores.{fits-long}
+use Rattle.records.specs.Fits.{RecordFits}
+use Rattle.writer.proofs.Stores.{fits-long}
 use Rattle.words.proofs.Stores.{record-stored}
 use borrow.Author.Needs.{needs}
 use Rattle.words.proofs.store.Statement.{statement}
