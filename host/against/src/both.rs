@@ -1,0 +1,223 @@
+//! One book kept twice, by the linked library and by `plain`. Every call goes to both, and what it says back, the counters, both
+//! rooms and the strips around them have to be as they must.
+use crate::guard::Guarded;
+use plain::Counters;
+use sorundappa::raw;
+
+/// A difference, in words.
+pub type Held = Result<u8, String>;
+
+/// The book, twice.
+pub struct Both {
+    counters: Guarded<u64>,
+    rows: Guarded<u8>,
+    lines: Guarded<u8>,
+    plain: Counters,
+    plain_rows: Vec<u8>,
+    plain_lines: Vec<u8>,
+    /// How many calls were made so far.
+    pub calls: u64,
+}
+
+fn words(c: &Counters) -> [u64; 5] {
+    [c.wanted, c.phase, c.rows, c.lines, c.taken]
+}
+
+fn same<T: PartialEq + std::fmt::Debug>(what: &str, linked: T, plain: T) -> Result<(), String> {
+    if linked == plain {
+        return Ok(());
+    }
+    Err(format!("{what}: the library has {linked:?}, plain has {plain:?}"))
+}
+
+fn first_difference(what: &str, linked: &[u8], plain: &[u8]) -> Result<(), String> {
+    match linked.iter().zip(plain).position(|(a, b)| a != b) {
+        None => same(&format!("{what}, length"), linked.len(), plain.len()),
+        Some(at) => Err(format!(
+            "{what}, byte {at}: the library has {}, plain has {}",
+            linked[at], plain[at]
+        )),
+    }
+}
+
+fn unmoved(what: &str, before: &[u8], after: &Guarded<u8>) -> Result<(), String> {
+    first_difference(&format!("{what}, which is only read"), after.seen(), before)?;
+    strips(what, after.whole())
+}
+
+fn strips(what: &str, whole: bool) -> Result<(), String> {
+    if whole {
+        return Ok(());
+    }
+    Err(format!("{what}: the library wrote beside what it was lent"))
+}
+
+impl Both {
+    /// A book with the given counters, over rooms of the given contents.
+    pub fn new(counters: Counters, rows: &[u8], lines: &[u8]) -> Both {
+        Both {
+            counters: Guarded::new(&words(&counters), 0xA5A5_A5A5_A5A5_A5A5),
+            rows: Guarded::new(rows, 0x5A),
+            lines: Guarded::new(lines, 0xC3),
+            plain: counters,
+            plain_rows: rows.to_vec(),
+            plain_lines: lines.to_vec(),
+            calls: 0,
+        }
+    }
+
+    /// A fresh book, started by both, over rooms of the given contents.
+    pub fn fresh(rows: &[u8], lines: &[u8]) -> Result<Both, String> {
+        let any = Counters { wanted: 77, phase: 88, rows: 99, lines: 111, taken: 222 };
+        let mut both = Both::new(any, rows, lines);
+        raw::start(both.counters.array());
+        both.plain = plain::fresh();
+        both.held("start")?;
+        Ok(both)
+    }
+
+    /// The counters, as `plain` has them.
+    pub fn counters(&self) -> Counters {
+        self.plain
+    }
+
+    // The counters and both rooms are the same on both sides, and the strips are whole.
+    fn held(&mut self, call: &str) -> Result<(), String> {
+        self.calls += 1;
+        same(&format!("{call}: counters"), self.counters.seen(), &words(&self.plain)[..])?;
+        first_difference(&format!("{call}: rows"), self.rows.seen(), &self.plain_rows)?;
+        first_difference(&format!("{call}: lines"), self.lines.seen(), &self.plain_lines)?;
+        strips(call, self.counters.whole() && self.rows.whole() && self.lines.whole())
+    }
+
+    /// Lists a symbol on both.
+    pub fn list(&mut self, symbol: [u8; 8], close: u32) -> Held {
+        let name = Guarded::new(&symbol, 0x11);
+        let told = raw::list(
+            self.counters.array(),
+            self.rows.lent(),
+            self.lines.seen(),
+            name.seen().try_into().expect("eight bytes"),
+            close,
+        );
+        let plain =
+            plain::list(&mut self.plain, &mut self.plain_rows, &self.plain_lines, symbol, close);
+        same("list: answer", told, plain.number())?;
+        unmoved("list: symbol", &symbol, &name)?;
+        self.held("list")?;
+        Ok(told)
+    }
+
+    /// Delivers a message to both.
+    pub fn deliver(&mut self, number: u64, message: &[u8]) -> Held {
+        let lent = Guarded::new(message, 0x54);
+        let told = raw::deliver(
+            self.counters.array(),
+            self.rows.lent(),
+            self.lines.lent(),
+            number,
+            lent.seen(),
+        );
+        let plain = plain::deliver(
+            &mut self.plain,
+            &mut self.plain_rows,
+            &mut self.plain_lines,
+            number,
+            message,
+        );
+        same("deliver: answer", told, plain.number())?;
+        unmoved("deliver: message", message, &lent)?;
+        self.held("deliver")?;
+        Ok(told)
+    }
+
+    /// Reads a row of both.
+    pub fn row(&mut self, symbol: [u8; 8]) -> Held {
+        let mut figures = Guarded::new(&[u64::MAX; 15], 0x1234_5678_9ABC_DEF0);
+        let counters = self.counters.seen().try_into().expect("five words");
+        let told =
+            raw::row(counters, self.rows.seen(), self.lines.seen(), &symbol, figures.array());
+        let (answer, row) = plain::row(&self.plain, &self.plain_rows, &self.plain_lines, symbol);
+        same("row: answer", told, answer.number())?;
+        same("row: words", figures.seen(), &row_words(&row)[..])?;
+        strips("row", figures.whole())?;
+        self.held("row")?;
+        Ok(told)
+    }
+}
+
+// A row as the words that the library hands back, from plain's row.
+fn row_words(row: &plain::Row) -> [u64; 15] {
+    let [last, high, low] =
+        [row.last, row.high, row.low].map(|p| p.map_or((0, 0), |x| (1, u64::from(x))));
+    let net = row.net.map_or((0, 0), |x| (1, x as u64));
+    let reported = row.reported.map_or((0, 0), |x| (1, x));
+    let symbol = u64::from_be_bytes(row.symbol);
+    let agrees = u64::from(row.agrees);
+    [
+        symbol,
+        row.close.into(),
+        last.0,
+        last.1,
+        high.0,
+        high.1,
+        low.0,
+        low.1,
+        net.0,
+        net.1,
+        row.volume,
+        row.count,
+        agrees,
+        reported.0,
+        reported.1,
+    ]
+}
+
+// A record as the bytes that cross, from plain's record.
+fn record_bytes(r: &plain::Record) -> [u8; 80] {
+    let sale = |s: &plain::Sale| {
+        [&s.control[..], &s.price.to_be_bytes(), &s.size.to_be_bytes(), &s.condition].concat()
+    };
+    let all = [
+        &[r.letter][..],
+        &r.time.to_be_bytes(),
+        &[r.event, r.centre],
+        &r.symbol,
+        &[r.class],
+        &sale(&r.sale),
+        &sale(&r.new),
+        &r.high.to_be_bytes(),
+        &r.low.to_be_bytes(),
+        &r.close.to_be_bytes(),
+        &r.consolidated.to_be_bytes(),
+    ]
+    .concat();
+    all.try_into().expect("eighty bytes")
+}
+
+/// Reads a message alone on both; the record, if there is one.
+pub fn read(message: &[u8]) -> Result<(u8, plain::Record), String> {
+    let lent = Guarded::new(message, 0x42);
+    let mut record = Guarded::new(&[0xEE; 80], 0x99);
+    let told = raw::read(lent.seen(), record.array());
+    let (answer, found) = plain::read(message);
+    same("read: answer", told, answer.number())?;
+    first_difference("read: record", record.seen(), &record_bytes(&found))?;
+    unmoved("read: message", message, &lent)?;
+    strips("read: record", record.whole())?;
+    Ok((told, found))
+}
+
+/// Writes a record on both, into spaces of the given contents.
+pub fn write(record: &plain::Record, space: &[u8]) -> Held {
+    let bytes = Guarded::new(&record_bytes(record), 0x66);
+    let mut out = Guarded::new(space, 0x77);
+    let mut plain_out = space.to_vec();
+    let told = raw::write(bytes.seen().try_into().expect("eighty bytes"), out.lent());
+    let plain = plain::write(record, &mut plain_out);
+    same("write: answer", told, plain.number())?;
+    first_difference("write: space", out.seen(), &plain_out)?;
+    unmoved("write: record", &record_bytes(record), &bytes)?;
+    strips("write: space", out.whole())?;
+    Ok(told)
+}

@@ -1,0 +1,306 @@
+//! The runs: each makes calls of one kind from the dice and stops at the first difference.
+use crate::both::{read, write, Both};
+use crate::tally::Tally;
+use chance::{
+    arrivals, contents, cut, day, flip, odd_counters, reach, retype, sound_counters, Counts, Day,
+    Dice, Kind, Maker, Trouble, LINE, ROW, SYMBOLS,
+};
+use plain::{Counters, Record};
+
+type Run = Result<(), String>;
+
+fn counters(c: Counts) -> Counters {
+    Counters { wanted: c.wanted, phase: c.phase, rows: c.rows, lines: c.lines, taken: c.taken }
+}
+
+fn rows_room(dice: &mut Dice, length: usize) -> Vec<u8> {
+    let kind = dice.pick(&[Kind::Zeros, Kind::Random, Kind::Rows, Kind::Rows]);
+    contents(dice, kind, length)
+}
+
+fn lines_room(dice: &mut Dice, length: usize) -> Vec<u8> {
+    let kind = dice.pick(&[Kind::Zeros, Kind::Random, Kind::Lines, Kind::Lines]);
+    contents(dice, kind, length)
+}
+
+// A fresh book with room to spare or a little too small, in any contents, and the day's sheet on it.
+fn opened(dice: &mut Dice, tally: &mut Tally, day: &Day) -> Result<Both, String> {
+    let (rows, lines) = (
+        ROW * dice.index(14) + dice.index(2),
+        LINE * dice.index(day.messages.len()) + dice.index(2),
+    );
+    let mut book = Both::fresh(&rows_room(dice, rows), &lines_room(dice, lines))?;
+    for (symbol, close) in &day.listings {
+        tally.count(book.list(*symbol, *close))?;
+    }
+    Ok(book)
+}
+
+fn all_rows(book: &mut Both, tally: &mut Tally) -> Run {
+    SYMBOLS.iter().try_for_each(|symbol| tally.count(book.row(*symbol)))
+}
+
+/// A day in order, a row read after each number and all at the end.
+pub fn sound_days(dice: &mut Dice, tally: &mut Tally) -> Run {
+    for _ in 0..200 {
+        let day = day(dice, 250);
+        let mut book = opened(dice, tally, &day)?;
+        for (number, message) in (1..).zip(&day.messages) {
+            tally.count(book.deliver(number, message))?;
+            tally.count(book.row(dice.pick(&SYMBOLS)))?;
+        }
+        all_rows(&mut book, tally)?;
+    }
+    Ok(())
+}
+
+/// Copies lost, repeated and out of order; what is used is 1 to n of demand 3.
+pub fn bad_lines(dice: &mut Dice, tally: &mut Tally) -> Run {
+    for _ in 0..150 {
+        let day = day(dice, 120);
+        let mut book = opened(dice, tally, &day)?;
+        let trouble = Trouble {
+            lost: dice.pick(&[0, 40, 8]),
+            repeated: dice.pick(&[0, 6]),
+            late: dice.pick(&[0, 9]),
+            rounds: 1 + dice.index(3),
+        };
+        let line = arrivals(dice, day.messages.len(), trouble);
+        for number in &line {
+            tally.count(book.deliver(*number as u64, &day.messages[number - 1]))?;
+        }
+        all_rows(&mut book, tally)?;
+        let (used, n) = (book.counters().wanted - 1, reach(&line) as u64);
+        if used != n {
+            return Err(format!(
+                "{used} numbers were used, and the arrivals have 1 to {n} in that order"
+            ));
+        }
+    }
+    Ok(())
+}
+
+// A book that is well into its day, over near-real contents.
+fn under_way(dice: &mut Dice, rows: usize, lines: usize) -> (Counters, Vec<u8>, Vec<u8>) {
+    let c = counters(sound_counters(dice, rows as u64, lines as u64));
+    (c, contents(dice, Kind::Rows, rows * ROW), contents(dice, Kind::Lines, lines * LINE))
+}
+
+// A message read alone, its record written back, and the message delivered as the wanted one.
+fn tried(dice: &mut Dice, tally: &mut Tally, message: &[u8]) -> Run {
+    let (told, record) = read(message)?;
+    tally.count(Ok(told))?;
+    let length = 60 + dice.index(20);
+    let space = dice.bytes(length);
+    tally.count(write(&record, &space))?;
+    let (c, rows, lines) = under_way(dice, 4, 6);
+    tally.count(Both::new(c, &rows, &lines).deliver(c.wanted, message))
+}
+
+/// Each byte of each type damaged, several times.
+pub fn damaged_bytes(dice: &mut Dice, tally: &mut Tally) -> Run {
+    for letter in *b"STXCJ" {
+        let (_, length) = lawful(dice, letter);
+        for at in 0..length {
+            for _ in 0..30 {
+                let (message, _) = lawful(dice, letter);
+                let message = flip(&message, at, dice);
+                tried(dice, tally, &message)?;
+            }
+        }
+    }
+    Ok(())
+}
+
+// Some lawful message of a type, and its length.
+fn lawful(dice: &mut Dice, letter: u8) -> (Vec<u8>, usize) {
+    let maker = Maker::new(12);
+    loop {
+        let message = maker.some_message(dice);
+        if message[4] == letter {
+            let length = message.len();
+            return (message, length);
+        }
+    }
+}
+
+/// Every length from 0 to 100, cut, lengthened, of random bytes, and with another type's letter.
+pub fn lengths(dice: &mut Dice, tally: &mut Tally) -> Run {
+    for length in 0..=100 {
+        for letter in *b"STXCJ" {
+            for _ in 0..10 {
+                let (message, _) = lawful(dice, letter);
+                let message = cut(&message, length, dice);
+                tried(dice, tally, &message)?;
+            }
+        }
+        for _ in 0..10 {
+            let mut message = dice.bytes(length);
+            tried(dice, tally, &message)?;
+            if length > 4 {
+                message[4] = dice.pick(b"STXCJstRL ");
+                tried(dice, tally, &message)?;
+            }
+            let (other, _) = lawful(dice, b'T');
+            let other = retype(&other, dice.pick(b"STXCJ?"));
+            tried(dice, tally, &other)?;
+        }
+    }
+    Ok(())
+}
+
+// One call of each kind on a book of its own.
+fn one_each(dice: &mut Dice, tally: &mut Tally, c: Counters, rows: &[u8], lines: &[u8]) -> Run {
+    let symbol = some_symbol(dice, rows, c);
+    let close = dice.pick(&[0, 1, 2_000_000_000, 2_000_000_001, u32::MAX]);
+    tally.count(Both::new(c, rows, lines).list(symbol, close))?;
+    tally.count(Both::new(c, rows, lines).row(symbol))?;
+    let number = some_number(dice, c.wanted);
+    let message = near_line(dice, lines);
+    tally.count(Both::new(c, rows, lines).deliver(number, &message))
+}
+
+// Mostly a symbol that stands in the room or in the pool.
+fn some_symbol(dice: &mut Dice, rows: &[u8], c: Counters) -> [u8; 8] {
+    let at = dice.index(c.rows.clamp(1, 8) as usize) * ROW;
+    match rows.get(at..at + 8) {
+        Some(symbol) if dice.chance(2) => symbol.try_into().expect("eight bytes"),
+        _ if dice.chance(8) => dice.roll().to_be_bytes(),
+        _ => dice.pick(&SYMBOLS),
+    }
+}
+
+// Mostly the wanted number; otherwise one at a bound.
+fn some_number(dice: &mut Dice, wanted: u64) -> u64 {
+    let beside = [
+        wanted.wrapping_sub(1),
+        wanted.wrapping_add(1),
+        0,
+        1,
+        u64::from(u32::MAX),
+        1 << 32,
+        u64::MAX,
+    ];
+    if dice.chance(4) {
+        dice.pick(&beside)
+    } else {
+        wanted
+    }
+}
+
+// A lawful message, often one that names a line of the room rightly or all but rightly.
+fn near_line(dice: &mut Dice, lines: &[u8]) -> Vec<u8> {
+    let letter = dice.pick(b"STTXXXCCCJ");
+    let (mut message, _) = lawful(dice, letter);
+    let cells = lines.len() / LINE;
+    if cells == 0 || message.len() < 45 || dice.chance(4) {
+        return message;
+    }
+    let cell = &lines[dice.index(cells) * LINE..][..LINE];
+    message[5] = cell[0];
+    message[6..14].copy_from_slice(&cell[11..19]);
+    message[15..25].copy_from_slice(&cell[1..11]);
+    message[25..37].copy_from_slice(&cell[19..31]);
+    if dice.chance(3) {
+        let at = 25 + dice.index(12);
+        return flip(&message, at, dice);
+    }
+    message
+}
+
+/// Counters at and around every bound.
+pub fn odd_books(dice: &mut Dice, tally: &mut Tally) -> Run {
+    for _ in 0..20_000 {
+        let (rows, lines) = (dice.index(5), dice.index(7));
+        let c = counters(odd_counters(dice, rows as u64, lines as u64));
+        let (rows, lines) = (rows_room(dice, rows * ROW), lines_room(dice, lines * LINE));
+        one_each(dice, tally, c, &rows, &lines)?;
+    }
+    Ok(())
+}
+
+/// Rooms of every length from none to two cells and one byte more.
+pub fn small_rooms(dice: &mut Dice, tally: &mut Tally) -> Run {
+    for rows in 0..=2 * ROW + 1 {
+        for lines in 0..=2 * LINE + 1 {
+            let c = counters(sound_counters(dice, (rows / ROW) as u64, (lines / LINE) as u64));
+            let (rows, lines) = (rows_room(dice, rows), lines_room(dice, lines));
+            one_each(dice, tally, c, &rows, &lines)?;
+        }
+    }
+    Ok(())
+}
+
+/// Random and near-real contents under sound counters.
+pub fn other_contents(dice: &mut Dice, tally: &mut Tally) -> Run {
+    for _ in 0..25_000 {
+        let (rows, lines) = (1 + dice.index(6), 1 + dice.index(20));
+        let c = counters(sound_counters(dice, rows as u64, lines as u64));
+        let (rows, lines) = (rows_room(dice, rows * ROW), lines_room(dice, lines * LINE));
+        one_each(dice, tally, c, &rows, &lines)?;
+    }
+    Ok(())
+}
+
+/// Numbers at every bound against wanted numbers at every bound.
+pub fn numbers(dice: &mut Dice, tally: &mut Tally) -> Run {
+    let bounds =
+        [0, 1, 2, u64::from(u32::MAX) - 1, u64::from(u32::MAX), 1 << 32, (1 << 32) + 1, u64::MAX];
+    for wanted in bounds {
+        for number in bounds {
+            for _ in 0..20 {
+                let (mut c, rows, lines) = under_way(dice, 3, 5);
+                c.wanted = wanted;
+                c.taken = c.taken.min(wanted.saturating_sub(1));
+                let message = near_line(dice, &lines);
+                tally.count(Both::new(c, &rows, &lines).deliver(number, &message))?;
+            }
+        }
+    }
+    Ok(())
+}
+
+/// Records that keep the rules, break one, or are any bytes, into spaces of every length.
+pub fn records(dice: &mut Dice, tally: &mut Tally) -> Run {
+    for length in 0..=70 {
+        for letter in *b"STXCJ" {
+            for _ in 0..20 {
+                let (message, _) = lawful(dice, letter);
+                let (_, record) = read(&message)?;
+                let record = if dice.chance(2) { record } else { one_field_off(dice, record) };
+                tally.count(write(&record, &dice.bytes(length)))?;
+            }
+        }
+    }
+    Ok(())
+}
+
+// One field of a record, its letter among them, given some other value.
+fn one_field_off(dice: &mut Dice, mut r: Record) -> Record {
+    let value = dice.roll();
+    match dice.index(18) {
+        0 => r.letter = value as u8,
+        1 => r.time = dice.pick(&[86_399_999, 86_400_000, u32::MAX]),
+        2 => r.event = value as u8,
+        3 => r.centre = value as u8,
+        4 => r.symbol[dice.index(8)] = value as u8,
+        5 => r.class = value as u8,
+        6 => r.sale.control[dice.index(10)] = value as u8,
+        7 => r.sale.price = some_price(dice),
+        8 => r.sale.size = dice.pick(&[0, 1, u32::MAX]),
+        9 => r.sale.condition[dice.index(4)] = value as u8,
+        10 => r.new.control[dice.index(10)] = value as u8,
+        11 => r.new.price = some_price(dice),
+        12 => r.new.size = dice.pick(&[0, 1, u32::MAX]),
+        13 => r.new.condition[dice.index(4)] = value as u8,
+        14 => r.high = some_price(dice),
+        15 => r.low = some_price(dice),
+        16 => r.close = some_price(dice),
+        _ => r.consolidated = value,
+    }
+    r
+}
+
+fn some_price(dice: &mut Dice) -> u32 {
+    dice.pick(&[0, 1, 2_000_000_000, 2_000_000_001, u32::MAX])
+}

@@ -1,0 +1,234 @@
+//! The two books under one set of calls, each timed in nanoseconds.
+use crate::day;
+use std::hint::black_box;
+use std::time::Instant;
+
+fn timed(work: impl FnOnce()) -> u64 {
+    let start = Instant::now();
+    work();
+    start.elapsed().as_nanos() as u64
+}
+
+/// What is measured of a side.
+pub trait Side {
+    fn new(rows: usize, lines: usize) -> Self;
+    /// A message read so many times.
+    fn reads(message: &[u8], times: usize) -> u64;
+    /// A message's record written so many times.
+    fn writes(message: &[u8], times: usize) -> u64;
+    /// The rooms cleared, a sheet of 256, then the messages in order; the messages alone are timed.
+    fn day(&mut self, messages: &[Vec<u8>]) -> u64;
+    /// Every row of the sheet read once.
+    fn wall(&self) -> u64;
+}
+
+/// The rooms and the counters of the proved book.
+pub struct Proved {
+    counters: [u64; 5],
+    rows: Vec<u8>,
+    lines: Vec<u8>,
+}
+
+/// The rooms and the counters of the plain one.
+pub struct Plain {
+    counters: plain::Counters,
+    rows: Vec<u8>,
+    lines: Vec<u8>,
+}
+
+impl Side for Proved {
+    fn new(rows: usize, lines: usize) -> Proved {
+        Proved { counters: [0; 5], rows: vec![0; rows * 30], lines: vec![0; lines * 40] }
+    }
+
+    fn reads(message: &[u8], times: usize) -> u64 {
+        timed(|| {
+            for _ in 0..times {
+                let _ = black_box(sorundappa::Record::read(black_box(message)));
+            }
+        })
+    }
+
+    fn writes(message: &[u8], times: usize) -> u64 {
+        let record = sorundappa::Record::read(message).expect("a lawful message");
+        let mut out = [0; 67];
+        timed(|| {
+            for _ in 0..times {
+                let _ = black_box(black_box(&record).write(black_box(&mut out)));
+            }
+        })
+    }
+
+    fn day(&mut self, messages: &[Vec<u8>]) -> u64 {
+        self.rows.fill(0);
+        self.lines.fill(0);
+        sorundappa::raw::start(&mut self.counters);
+        for i in 0..256 {
+            assert_eq!(
+                sorundappa::raw::list(
+                    &mut self.counters,
+                    &mut self.rows,
+                    &self.lines,
+                    &day::symbol(i),
+                    250_000
+                ),
+                0
+            );
+        }
+        timed(|| {
+            for (number, message) in (1..).zip(messages) {
+                let told = sorundappa::raw::deliver(
+                    &mut self.counters,
+                    &mut self.rows,
+                    &mut self.lines,
+                    number,
+                    message,
+                );
+                assert_eq!(told, 0, "number {number}");
+            }
+        })
+    }
+
+    fn wall(&self) -> u64 {
+        let mut row = [0; 15];
+        timed(|| {
+            for i in 0..256 {
+                let told = sorundappa::raw::row(
+                    &self.counters,
+                    &self.rows,
+                    &self.lines,
+                    &day::symbol(i),
+                    &mut row,
+                );
+                assert_eq!(black_box((told, sorundappa::Row::of(&row))).0, 0);
+            }
+        })
+    }
+}
+
+impl Side for Plain {
+    fn new(rows: usize, lines: usize) -> Plain {
+        Plain { counters: plain::fresh(), rows: vec![0; rows * 30], lines: vec![0; lines * 40] }
+    }
+
+    fn reads(message: &[u8], times: usize) -> u64 {
+        timed(|| {
+            for _ in 0..times {
+                black_box(plain::read(black_box(message)));
+            }
+        })
+    }
+
+    fn writes(message: &[u8], times: usize) -> u64 {
+        let (_, record) = plain::read(message);
+        let mut out = [0; 67];
+        timed(|| {
+            for _ in 0..times {
+                black_box(plain::write(black_box(&record), black_box(&mut out)));
+            }
+        })
+    }
+
+    fn day(&mut self, messages: &[Vec<u8>]) -> u64 {
+        self.rows.fill(0);
+        self.lines.fill(0);
+        self.counters = plain::fresh();
+        for i in 0..256 {
+            assert_eq!(
+                plain::list(
+                    &mut self.counters,
+                    &mut self.rows,
+                    &self.lines,
+                    day::symbol(i),
+                    250_000
+                ),
+                plain::Answer::Done
+            );
+        }
+        timed(|| {
+            for (number, message) in (1..).zip(messages) {
+                let told = plain::deliver(
+                    &mut self.counters,
+                    &mut self.rows,
+                    &mut self.lines,
+                    number,
+                    message,
+                );
+                assert_eq!(told, plain::Answer::Done, "number {number}");
+            }
+        })
+    }
+
+    fn wall(&self) -> u64 {
+        timed(|| {
+            for i in 0..256 {
+                let (told, row) =
+                    plain::row(&self.counters, &self.rows, &self.lines, day::symbol(i));
+                assert_eq!(black_box((told, row)).0, plain::Answer::Done);
+            }
+        })
+    }
+}
+
+impl Proved {
+    /// Whether both hold the same bytes.
+    pub fn same_as(&self, other: &Plain) -> bool {
+        self.rows == other.rows && self.lines == other.lines
+    }
+
+    /// A book with so many rows and lines used: nanoseconds of a trade of the last row there, and of reading that row.
+    pub fn grown(lines: usize, rows: usize) -> (f64, f64) {
+        const MORE: usize = 64;
+        let mut book = Proved::new(256, 65_536);
+        let all = day::messages(lines, rows);
+        sorundappa::raw::start(&mut book.counters);
+        for i in 0..rows {
+            sorundappa::raw::list(
+                &mut book.counters,
+                &mut book.rows,
+                &book.lines,
+                &day::symbol(i),
+                250_000,
+            );
+        }
+        for (number, message) in (1..).zip(&all) {
+            sorundappa::raw::deliver(
+                &mut book.counters,
+                &mut book.rows,
+                &mut book.lines,
+                number,
+                message,
+            );
+        }
+        let more = day::of_last_row(lines, MORE, rows);
+        let mut row = [0; 15];
+        let read = (0..5)
+            .map(|_| {
+                timed(|| {
+                    black_box(sorundappa::raw::row(
+                        &book.counters,
+                        &book.rows,
+                        &book.lines,
+                        &day::symbol(rows - 1),
+                        &mut row,
+                    ));
+                })
+            })
+            .min();
+        let trades = timed(|| {
+            for (number, message) in (all.len() as u64 + 1..).zip(&more) {
+                assert_eq!(
+                    sorundappa::raw::deliver(
+                        &mut book.counters,
+                        &mut book.rows,
+                        &mut book.lines,
+                        number,
+                        message
+                    ),
+                    0
+                );
+            }
+        });
+        (trades as f64 / MORE as f64, read.unwrap_or(0) as f64)
+    }
+}
