@@ -14,7 +14,7 @@ const AT_LEAST: u64 = 200_000;
 
 type Kind = (&'static str, fn(&mut Dice, &mut Tally) -> Result<(), String>);
 
-const KINDS: [Kind; 9] = [
+const KINDS: [Kind; 10] = [
     ("sound days", runs::sound_days),
     ("lost, repeated and late copies", runs::bad_lines),
     ("a damaged byte at every offset", runs::damaged_bytes),
@@ -24,6 +24,7 @@ const KINDS: [Kind; 9] = [
     ("rooms of other contents", runs::other_contents),
     ("numbers at every bound", runs::numbers),
     ("records written", runs::records),
+    ("books at their caps", runs::full_books),
 ];
 
 // The seed that was asked for, or one of the clock's.

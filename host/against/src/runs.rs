@@ -304,3 +304,27 @@ fn one_field_off(dice: &mut Dice, mut r: Record) -> Record {
 fn some_price(dice: &mut Dice) -> u32 {
     dice.pick(&[0, 1, 2_000_000_000, 2_000_000_001, u32::MAX])
 }
+
+/// Books at their caps, with more room than the caps allow: 256 rows and 65,536 lines.
+pub fn full_books(dice: &mut Dice, tally: &mut Tally) -> Run {
+    let mut sheet = Both::fresh(&dice.bytes(260 * ROW), &[])?;
+    for i in 0..260 {
+        tally
+            .count(sheet.list(format!("R{i:<7}").as_bytes().try_into().expect("eight bytes"), i))?;
+    }
+    let rows = contents(dice, Kind::Rows, 2 * ROW);
+    let lines = contents(dice, Kind::Lines, 65_538 * LINE);
+    let symbol: [u8; 8] = rows[..8].try_into().expect("eight bytes");
+    for used in [65_534, 65_535, 65_536, 65_537] {
+        let c = Counters { wanted: 9, phase: 2, rows: 1, lines: used, taken: 3 };
+        let mut book = Both::new(c, &rows, &lines);
+        for i in 0..4 {
+            let (mut trade, _) = lawful(dice, b'T');
+            trade[6..14].copy_from_slice(&symbol);
+            trade[15..25].copy_from_slice(format!("NEW{i:<7}").as_bytes());
+            tally.count(book.deliver(book.counters().wanted, &trade))?;
+        }
+        tally.count(book.row(symbol))?;
+    }
+    Ok(())
+}
