@@ -16,20 +16,20 @@ use Rattle.book.specs.Calls.{listSaid, listRows, deliverSaid, deliverRows, deli
 use Rattle.words.specs.Words.{countersOf, counterWords, rowWords, recordOf, recordBytes}
 
 module _ (w rows lines : List ℕ) {c : Counters} (e : c ≡ countersOf w) {a : ℕ} where
-  pub list-told : (symbol : List ℕ) (close : ℕ) {s : Said} {w₁ rows₁ : List ℕ}
+  pub list-said : (symbol : List ℕ) (close : ℕ) {s : Said} {w₁ rows₁ : List ℕ}
       → (s ≡ listSaid c rows lines symbol close) × (rows₁ ≡ listRows c rows lines symbol close) → w₁ ≡ counterWords (s .counters) → a ≡ numberOf (s .answer)
       → (a ≡ numberOf (listSaid (countersOf w) rows lines symbol close .answer)) × ((w₁ ≡ counterWords (listSaid (countersOf w) rows lines symbol close .counters)) × (rows₁ ≡ listRows (countersOf w) rows lines symbol close))
-  list-told symbol close h p n =
+  list-said symbol close h p n =
       let s = h .0 ∙ ap (λ (k : Counters). listSaid k rows lines symbol close) e in (
         n ∙ ap (λ (o : Said). numberOf (o .answer)) s,
         (p ∙ ap (λ (o : Said). counterWords (o .counters)) s, h .1 ∙ ap (λ (k : Counters). listRows k rows lines symbol close) e),
       )
 
-  pub deliver-told : (number : ℕ) (message : List ℕ) {s : Said} {w₁ rows₁ lines₁ : List ℕ}
+  pub deliver-said : (number : ℕ) (message : List ℕ) {s : Said} {w₁ rows₁ lines₁ : List ℕ}
       → (s ≡ deliverSaid c rows lines number message) × ((rows₁ ≡ deliverRows c rows lines number message) × (lines₁ ≡ deliverLines c rows lines number message))
       → w₁ ≡ counterWords (s .counters) → a ≡ numberOf (s .answer)
       → (a ≡ numberOf (deliverSaid (countersOf w) rows lines number message .answer)) × ((w₁ ≡ counterWords (deliverSaid (countersOf w) rows lines number message .counters)) × ((rows₁ ≡ deliverRows (countersOf w) rows lines number message) × (lines₁ ≡ deliverLines (countersOf w) rows lines number message)))
-  deliver-told number message h p n =
+  deliver-said number message h p n =
       let s = h .0 ∙ ap (λ (k : Counters). deliverSaid k rows lines number message) e in (
         n ∙ ap (λ (o : Said). numberOf (o .answer)) s,
         (
@@ -41,17 +41,17 @@ module _ (w rows lines : List ℕ) {c : Counters} (e : c ≡ countersOf w) {a : 
         ),
       )
 
-  pub row-told : (symbol : List ℕ) {s : Shown} {w₁ : List ℕ} → s ≡ rowShown c rows lines symbol → w₁ ≡ rowWords (s .row) → a ≡ numberOf (s .answer)
+  pub row-said : (symbol : List ℕ) {s : Shown} {w₁ : List ℕ} → s ≡ rowShown c rows lines symbol → w₁ ≡ rowWords (s .row) → a ≡ numberOf (s .answer)
       → (a ≡ numberOf (rowShown (countersOf w) rows lines symbol .answer)) × (w₁ ≡ rowWords (rowShown (countersOf w) rows lines symbol .row))
-  row-told symbol h p n =
+  row-said symbol h p n =
       let s = h ∙ ap (λ (k : Counters). rowShown k rows lines symbol) e in
       (n ∙ ap (λ (o : Shown). numberOf (o .answer)) s, p ∙ ap (λ (o : Shown). rowWords (o .row)) s)
 
-pub read-told : (message : List ℕ) {q : Reading} {b : List ℕ} {a : ℕ} → q ≡ readOf message → b ≡ recordBytes (q .found) → a ≡ numberOf (q .answer)
+pub read-said : (message : List ℕ) {q : Reading} {b : List ℕ} {a : ℕ} → q ≡ readOf message → b ≡ recordBytes (q .found) → a ≡ numberOf (q .answer)
     → (a ≡ numberOf (readOf message .answer)) × (b ≡ recordBytes (readOf message .found))
-read-told message h p n = (n ∙ ap (λ (o : Reading). numberOf (o .answer)) h, p ∙ ap (λ (o : Reading). recordBytes (o .found)) h)
+read-said message h p n = (n ∙ ap (λ (o : Reading). numberOf (o .answer)) h, p ∙ ap (λ (o : Reading). recordBytes (o .found)) h)
 
-pub write-told : (bytes out : List ℕ) {r : Record} {o : Answer} {out₁ : List ℕ} {a : ℕ}
+pub write-said : (bytes out : List ℕ) {r : Record} {o : Answer} {out₁ : List ℕ} {a : ℕ}
     → r ≡ recordOf bytes → (o ≡ writeAnswer r out) × (out₁ ≡ writeOut r out) → a ≡ numberOf o
     → (a ≡ numberOf (writeAnswer (recordOf bytes) out)) × (out₁ ≡ writeOut (recordOf bytes) out)
-write-told bytes out e h n = (n ∙ ap numberOf (h .0 ∙ ap (λ (q : Record). writeAnswer q out) e), h .1 ∙ ap (λ (q : Record). writeOut q out) e)
+write-said bytes out e h n = (n ∙ ap numberOf (h .0 ∙ ap (λ (q : Record). writeAnswer q out) e), h .1 ∙ ap (λ (q : Record). writeOut q out) e)

@@ -1,6 +1,6 @@
 -- `cabinet::sorundappa_deliver` meets its contract.
 -- Assumes nothing.
-use Rattle.cabinet.proofs.Calls.{deliver-told}
+use Rattle.cabinet.proofs.Calls.{deliver-said}
 use borrow.Author.Needs.{needs}
 use Rattle.cabinet.proofs.sorundappa_deliver.Statement.{statement}
 use Rattle.cabinet.proofs.sorundappa_deliver.Tie as tie
@@ -26,7 +26,7 @@ same-length-2 c = search needs
 returns : tie.Need-returns
 returns c =
     let a = c .before .before .before .before .before .before .before .before .before .before .before .before .before .before .before .before .args in
-    deliver-told (a .counters .now) (a .rows .now) (a .lines .now) (c .before .before .before .before .before .before .before .before .before .before .before .counters .ensures) (a .number) (a .message .now) (c .before .before .before .before .before .before .before .before .deliver .ensures) (c .before .put-counters .ensures) (c .number .ensures)
+    deliver-said (a .counters .now) (a .rows .now) (a .lines .now) (c .before .before .before .before .before .before .before .before .before .before .before .counters .ensures) (a .number) (a .message .now) (c .before .before .before .before .before .before .before .before .deliver .ensures) (c .before .put-counters .ensures) (c .number .ensures)
 
 pub sorundappa-deliver-spec : {M : Type 1} → statement M
 sorundappa-deliver-spec =

@@ -1,6 +1,6 @@
 -- `cabinet::sorundappa_list` meets its contract.
 -- Assumes nothing.
-use Rattle.cabinet.proofs.Calls.{list-told}
+use Rattle.cabinet.proofs.Calls.{list-said}
 use borrow.Author.Needs.{needs}
 use Rattle.cabinet.proofs.sorundappa_list.Statement.{statement}
 use Rattle.cabinet.proofs.sorundappa_list.Tie as tie
@@ -23,7 +23,7 @@ same-length c = search needs
 returns : tie.Need-returns
 returns c =
     let a = c .before .before .before .before .before .before .before .before .before .before .before .before .before .args in
-    list-told (a .counters .now) (a .rows .now) (a .lines .now) (c .before .before .before .before .before .before .before .before .counters .ensures) (a .symbol .now) (a .close) (c .before .before .before .before .before .before .list .ensures) (c .before .put-counters .ensures) (c .number .ensures)
+    list-said (a .counters .now) (a .rows .now) (a .lines .now) (c .before .before .before .before .before .before .before .before .counters .ensures) (a .symbol .now) (a .close) (c .before .before .before .before .before .before .list .ensures) (c .before .put-counters .ensures) (c .number .ensures)
 
 pub sorundappa-list-spec : {M : Type 1} → statement M
 sorundappa-list-spec =

@@ -1,7 +1,7 @@
 -- `cabinet::sorundappa_read` meets its contract.
 -- Assumes nothing.
 use Rattle.octets.specs.Run.{Bytes}
-use Rattle.cabinet.proofs.Calls.{read-told}
+use Rattle.cabinet.proofs.Calls.{read-said}
 use borrow.Author.Needs.{needs}
 use Rattle.cabinet.proofs.sorundappa_read.Statement.{statement}
 use Rattle.cabinet.proofs.sorundappa_read.Tie as tie
@@ -20,7 +20,7 @@ number-requires : tie.Need-number-requires
 number-requires c κs = search needs
 
 returns : tie.Need-returns
-returns c = read-told (c .before .before .before .before .before .before .args .message .now) (c .before .before .before .before .read .ensures) (c .before .put-record .ensures) (c .number .ensures)
+returns c = read-said (c .before .before .before .before .before .before .args .message .now) (c .before .before .before .before .read .ensures) (c .before .put-record .ensures) (c .number .ensures)
 
 pub sorundappa-read-spec : {M : Type 1} → statement M
 sorundappa-read-spec =

@@ -1,6 +1,6 @@
 -- `cabinet::sorundappa_row` meets its contract.
 -- Assumes nothing.
-use Rattle.cabinet.proofs.Calls.{row-told}
+use Rattle.cabinet.proofs.Calls.{row-said}
 use borrow.Author.Needs.{needs}
 use Rattle.cabinet.proofs.sorundappa_row.Statement.{statement}
 use Rattle.cabinet.proofs.sorundappa_row.Tie as tie
@@ -20,7 +20,7 @@ number-requires c κs = search needs
 returns : tie.Need-returns
 returns c =
     let a = c .before .before .before .before .before .before .before .before .before .args in
-    row-told (a .counters .now) (a .rows .now) (a .lines .now) (c .before .before .before .before .before .counters .ensures) (a .symbol .now) (c .before .before .before .before .row .ensures) (c .before .put-row .ensures) (c .number .ensures)
+    row-said (a .counters .now) (a .rows .now) (a .lines .now) (c .before .before .before .before .before .counters .ensures) (a .symbol .now) (c .before .before .before .before .row .ensures) (c .before .put-row .ensures) (c .number .ensures)
 
 pub sorundappa-row-spec : {M : Type 1} → statement M
 sorundappa-row-spec =

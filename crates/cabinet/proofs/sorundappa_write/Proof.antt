@@ -1,6 +1,6 @@
 -- `cabinet::sorundappa_write` meets its contract.
 -- Assumes nothing.
-use Rattle.cabinet.proofs.Calls.{write-told}
+use Rattle.cabinet.proofs.Calls.{write-said}
 use borrow.Author.Needs.{needs}
 use Rattle.cabinet.proofs.sorundappa_write.Statement.{statement}
 use Rattle.cabinet.proofs.sorundappa_write.Tie as tie
@@ -20,7 +20,7 @@ same-length c = search needs
 returns : tie.Need-returns
 returns c =
     let a = c .before .before .before .before .before .before .before .args in
-    write-told (a .bytes .now) (a .out .now) (c .before .before .before .before .before .«record» .ensures) (c .before .before .before .write .ensures) (c .number .ensures)
+    write-said (a .bytes .now) (a .out .now) (c .before .before .before .before .before .«record» .ensures) (c .before .before .before .write .ensures) (c .number .ensures)
 
 pub sorundappa-write-spec : {M : Type 1} → statement M
 sorundappa-write-spec =
