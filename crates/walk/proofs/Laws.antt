@@ -1,20 +1,37 @@
 -- One line more in a walk, and the turns of its loop.
 -- Assumes nothing.
-use mathlib.Core.Path.{_≡_, sym}
-use mathlib.Core.Bool.{true, false, and-false}
+use mathlib.Core.Path.{_≡_, refl, ap, sym, _∙_}
+use mathlib.Core.Bool.{Bool, true, false, and-false, true≢false}
 use mathlib.Core.List.{List}
 use Prim.Native.Nat.{ℕ, _+_, _-_, _≤_, _<_}
 use borrow.Author.Tests.{ne-eqb, eq-eqb}
-use lib.ListN.{getD}
-use Rattle.octets.specs.Run.{tab, part, same}
-use Rattle.octets.specs.Number.{be}
+use lib.Dec.{eqb}
+use lib.ListN.{length, getD}
+use Rattle.octets.specs.Run.{tab, part, same, Bytes}
+use Rattle.octets.specs.Number.{be, digits}
 use Rattle.octets.proofs.Laws.{tab-step, tab-end}
+use Rattle.octets.proofs.Trips.{digits-part, same-is, whole}
 use Rattle.sheet.specs.declared.Marks.{Marks}
 use Rattle.sheet.specs.Sheet.{conditionMarks}
 use Rattle.lines.specs.Lines.{lineFrom}
 use Rattle.lines.specs.declared.Line.{Line}
 use Rattle.walk.specs.declared.Figures.{Figures}
 use Rattle.walk.specs.Figures.{counts, dealt, sold, tally, fold}
+
+-- eight bytes are a symbol's exactly if their number is
+pub number-same : (m symbol : List ℕ) (at : ℕ) → Bytes m → Bytes symbol → length symbol ≡ 8
+    → eqb (be (part m at 8)) (be (part symbol 0 8)) ≡ same (part m at 8) symbol
+number-same m symbol at b c l = go (same (part m at 8) symbol) refl
+  where
+    w : part symbol 0 8 ≡ symbol
+    w = whole symbol 8 l
+
+    there : be (part m at 8) ≡ be (part symbol 0 8) → part m at 8 ≡ symbol
+    there e = sym (digits-part m at 8 b) ∙ ap (digits 8) e ∙ digits-part symbol 0 8 c ∙ w
+
+    go : (x : Bool) → same (part m at 8) symbol ≡ x → eqb (be (part m at 8)) (be (part symbol 0 8)) ≡ same (part m at 8) symbol
+    go true e = eq-eqb _ _ (ap be (same-is (part m at 8) symbol .0 e ∙ sym w)) ∙ sym e
+    go false e = ne-eqb _ _ (λ q. true≢false (sym (same-is (part m at 8) symbol .1 (there q)) ∙ e)) ∙ sym e
 
 module _ (m symbol : List ℕ) (t : Figures) (at : ℕ) where
   pub tally-dead : (getD m (at + 39) 0 ≡ 1 → ⊥) → tally symbol t (lineFrom m at) ≡ t

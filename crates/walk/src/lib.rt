@@ -11,6 +11,7 @@ ghost use mathlib.Core.Path.{_≡_};
 ghost use mathlib.Core.Bool.{cond};
 ghost use Prim.Native.Nat.{_+_, _*_, _≤_, _<_, _^_};
 ghost use lib.ListN.{length};
+ghost use Rattle.octets.specs.Run.{part, same};
 ghost use Rattle.lines.specs.Lines.{lineFrom, usedLines};
 ghost use Rattle.walk.specs.Figures.{raise, lower, later, sold, tally, figuresOf};
 
@@ -96,6 +97,13 @@ fn with_sale(t: Figures, price: u32, size: u32, place: u32, marks: Marks) -> Fig
     }
 }
 
+// Whether the symbol stands from a place on: both as one number of eight bytes.
+fn is_of(lines: &[u8], at: usize, symbol: [u8; 8]) -> bool
+    ensures { λ r. ⌜ r ≡ same (part (now (lines .entry)) at 8) symbol ⌝ }
+{
+    numbers::number8(lines, at) == numbers::number8(&symbol, 0)
+}
+
 // The figures with the line whose cell starts at an offset, if it is live and of the symbol.
 fn with_line(t: Figures, lines: &[u8], at: usize, symbol: [u8; 8]) -> Figures
     requires { ⌜ at + 40 ≤ length (now lines) ⌝ }
@@ -106,7 +114,7 @@ fn with_line(t: Figures, lines: &[u8], at: usize, symbol: [u8; 8]) -> Figures
     if octets::run::byte(lines, at + LIVE) != 1 {
         return t;
     }
-    if octets::run::same_at(lines, at + SYMBOL, &symbol) {
+    if is_of(lines, at + SYMBOL, symbol) {
         let mut condition = [0u8; 4];
         octets::run::fill(&mut condition, lines, at + CONDITION);
         let price = numbers::number4(lines, at + PRICE);
