@@ -1,7 +1,7 @@
 -- One line more in a walk, and the turns of its loop.
 -- Assumes nothing.
 use mathlib.Core.Path.{_≡_, refl, ap, sym, _∙_}
-use mathlib.Core.Bool.{Bool, true, false, and-false, true≢false}
+use mathlib.Core.Bool.{Bool, true, false, true≢false}
 use mathlib.Core.List.{List}
 use Prim.Native.Nat.{ℕ, _+_, _-_, _≤_, _<_}
 use borrow.Author.Tests.{ne-eqb, eq-eqb}
@@ -33,19 +33,23 @@ number-same m symbol at b c l = go (same (part m at 8) symbol) refl
     go true e = eq-eqb _ _ (ap be (same-is (part m at 8) symbol .0 e ∙ sym w)) ∙ sym e
     go false e = ne-eqb _ _ (λ q. true≢false (sym (same-is (part m at 8) symbol .1 (there q)) ∙ e)) ∙ sym e
 
-module _ (m symbol : List ℕ) (t : Figures) (at : ℕ) where
-  pub tally-dead : (getD m (at + 39) 0 ≡ 1 → ⊥) → tally symbol t (lineFrom m at) ≡ t
-  unfolding tally counts lineFrom
-  tally-dead h = rw (ne-eqb (getD m (at + 39) 0) 1 h)
+module _ (m symbol : List ℕ) (at : ℕ) where
+  pub counts-dead : (getD m (at + 39) 0 ≡ 1 → ⊥) → counts symbol (lineFrom m at) ≡ false
+  unfolding counts lineFrom
+  counts-dead h = rw (ne-eqb (getD m (at + 39) 0) 1 h)
 
-  pub tally-other : same (part m (at + 11) 8) symbol ≡ false → tally symbol t (lineFrom m at) ≡ t
-  unfolding tally counts lineFrom
-  tally-other h = rw (h, and-false)
+  pub counts-live : getD m (at + 39) 0 ≡ 1 → counts symbol (lineFrom m at) ≡ same (part m (at + 11) 8) symbol
+  unfolding counts lineFrom
+  counts-live h = rw (eq-eqb (getD m (at + 39) 0) 1 h)
 
-  pub tally-live : getD m (at + 39) 0 ≡ 1 → same (part m (at + 11) 8) symbol ≡ true
-      → tally symbol t (lineFrom m at) ≡ dealt t (lineFrom m at)
-  unfolding tally counts lineFrom
-  tally-live h s = rw (eq-eqb (getD m (at + 39) 0) 1 h, s)
+module _ (symbol : List ℕ) (t : Figures) (l : Line) where
+  pub tally-counted : counts symbol l ≡ true → tally symbol t l ≡ dealt t l
+  unfolding tally
+  tally-counted h = rw h
+
+  pub tally-other : counts symbol l ≡ false → tally symbol t l ≡ t
+  unfolding tally
+  tally-other h = rw h
 
 pub fold-step : {A : Type 0} (f : A → Line → A) (a : A) (g : ℕ → Line) (i n : ℕ) → i < n
     → fold f a (tab g i (n - i)) ≡ fold f (f a (g i)) (tab g (i + 1) (n - (i + 1)))
@@ -56,11 +60,9 @@ pub fold-end : {A : Type 0} (f : A → Line → A) (a : A) (g : ℕ → Line) (i
 unfolding fold
 fold-end f a g i n h = rw (tab-end g i n h)
 
--- a line that counts, from what was read of it
-pub tally-done : (m symbol : List ℕ) (t r : Figures) (at : ℕ) (condition : List ℕ) (price size place : ℕ) (marks : Marks)
-    → getD m (at + 39) 0 ≡ 1 → same (part m (at + 11) 8) symbol ≡ true
+-- one more trade, from what was read of its line
+pub dealt-read : (m : List ℕ) (t r : Figures) (at : ℕ) (condition : List ℕ) (price size place : ℕ) (marks : Marks)
     → condition ≡ part m (at + 27) 4 → price ≡ be (part m (at + 19) 4) → size ≡ be (part m (at + 23) 4) → place ≡ be (part m (at + 31) 4)
-    → marks ≡ conditionMarks condition → r ≡ sold t price size place marks → r ≡ tally symbol t (lineFrom m at)
+    → marks ≡ conditionMarks condition → r ≡ sold t price size place marks → r ≡ dealt t (lineFrom m at)
 unfolding lineFrom
-tally-done m symbol t r at condition price size place marks h s ec ep ez ew em e =
-    rw (e, em, ec, ep, ez, ew) (sym (tally-live m symbol t at h s))
+dealt-read m t r at condition price size place marks ec ep ez ew em e = rw (e, em, ec, ep, ez, ew)

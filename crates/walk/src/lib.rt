@@ -13,7 +13,7 @@ ghost use Prim.Native.Nat.{_+_, _*_, _≤_, _<_, _^_};
 ghost use lib.ListN.{length};
 ghost use Rattle.octets.specs.Run.{part, same};
 ghost use Rattle.lines.specs.Lines.{lineFrom, usedLines};
-ghost use Rattle.walk.specs.Figures.{raise, lower, later, sold, tally, figuresOf};
+ghost use Rattle.walk.specs.Figures.{raise, lower, later, counts, sold, dealt, figuresOf};
 
 pub enum Price {
     Absent,
@@ -104,26 +104,30 @@ fn is_of(lines: &[u8], at: usize, symbol: [u8; 8]) -> bool
     numbers::number8(lines, at) == numbers::number8(&symbol, 0)
 }
 
-// The figures with the line whose cell starts at an offset, if it is live and of the symbol.
-fn with_line(t: Figures, lines: &[u8], at: usize, symbol: [u8; 8]) -> Figures
+// Whether the line whose cell starts at an offset is live and of the symbol.
+fn is_counted(lines: &[u8], at: usize, symbol: [u8; 8]) -> bool
     requires { ⌜ at + 40 ≤ length (now lines) ⌝ }
-    requires { ⌜ (t .volume + 2 ^ 32 ≤ 2 ^ 64) × (t .count + 1 < 2 ^ 64) ⌝ }
-    ensures { λ r. ⌜ r ≡ tally symbol t (lineFrom (now (lines .entry)) at) ⌝ }
-    ensures { λ r. ⌜ (r .volume < t .volume + 2 ^ 32) × (r .count ≤ t .count + 1) ⌝ }
+    ensures { λ r. ⌜ r ≡ counts symbol (lineFrom (now (lines .entry)) at) ⌝ }
 {
     if octets::run::byte(lines, at + LIVE) != 1 {
-        return t;
+        return false;
     }
-    if is_of(lines, at + SYMBOL, symbol) {
-        let mut condition = [0u8; 4];
-        octets::run::fill(&mut condition, lines, at + CONDITION);
-        let price = numbers::number4(lines, at + PRICE);
-        let size = numbers::number4(lines, at + SIZE);
-        let place = numbers::number4(lines, at + PLACE);
-        with_sale(t, price, size, place, sheet::condition_marks(condition))
-    } else {
-        t
-    }
+    is_of(lines, at + SYMBOL, symbol)
+}
+
+// The figures with the trade of the line whose cell starts at an offset.
+fn with_line(t: Figures, lines: &[u8], at: usize) -> Figures
+    requires { ⌜ at + 40 ≤ length (now lines) ⌝ }
+    requires { ⌜ (t .volume + 2 ^ 32 ≤ 2 ^ 64) × (t .count + 1 < 2 ^ 64) ⌝ }
+    ensures { λ r. ⌜ r ≡ dealt t (lineFrom (now (lines .entry)) at) ⌝ }
+    ensures { λ r. ⌜ (r .volume < t .volume + 2 ^ 32) × (r .count ≤ t .count + 1) ⌝ }
+{
+    let mut condition = [0u8; 4];
+    octets::run::fill(&mut condition, lines, at + CONDITION);
+    let price = numbers::number4(lines, at + PRICE);
+    let size = numbers::number4(lines, at + SIZE);
+    let place = numbers::number4(lines, at + PLACE);
+    with_sale(t, price, size, place, sheet::condition_marks(condition))
 }
 
 // The figures of a symbol, from its live lines among those used.
@@ -143,7 +147,11 @@ pub fn walk(lines: &[u8], used: usize, symbol: [u8; 8]) -> Figures
         if limit <= i {
             return t;
         }
-        t = with_line(t, lines, i * CELL, symbol);
+        if is_counted(lines, i * CELL, symbol) {
+            t = with_line(t, lines, i * CELL);
+            i += 1;
+            continue;
+        }
         i += 1;
     }
     t

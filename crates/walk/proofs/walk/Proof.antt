@@ -8,7 +8,7 @@ use lib.ListN.{length}
 use Rattle.octets.specs.Run.{tab}
 use Rattle.lines.specs.Lines.{lineAt, lineLimit, usedLines}
 use Rattle.walk.specs.Figures.{fold, tally, figuresOf}
-use Rattle.walk.proofs.Laws.{fold-step, fold-end}
+use Rattle.walk.proofs.Laws.{fold-step, fold-end, tally-counted, tally-other}
 use borrow.Author.Needs.{needs}
 use Rattle.walk.proofs.walk.Statement.{statement}
 use Rattle.walk.proofs.walk.Tie as tie
@@ -31,6 +31,12 @@ returns c =
     let l = c .before .before .loop in
     sym (fold-end _ _ _ _ _ (omega (arith, l .inv .0, c .if1 .taken))) ∙ l .inv .4
 
+mul-is-counted : tie.Need-mul-is-counted Inv-loop μ-loop
+mul-is-counted c = omega arith
+
+is-counted-requires : tie.Need-is-counted-requires Inv-loop μ-loop
+is-counted-requires c κs = omega arith
+
 mul-with-line : tie.Need-mul-with-line Inv-loop μ-loop
 mul-with-line c = omega arith
 
@@ -45,8 +51,20 @@ loop-less c = omega arith
 
 loop-again : tie.Need-loop-again Inv-loop μ-loop
 loop-again c =
-    let l = c .before .before .before .loop in
-    (l .inv .0, omega arith, omega (arith, c .with-line .ensures .1), omega (arith, c .with-line .ensures .1), rw (c .with-line .ensures .0) (sym (fold-step _ _ _ _ _ (omega (arith, l .inv .0, c .before .before .loop-test .taken, c .before .if1 .left))) ∙ l .inv .4))
+    let l = c .before .before .before .before .before .loop in
+    (l .inv .0, omega arith, omega (arith, c .with-line .ensures .1), omega (arith, c .with-line .ensures .1), rw (c .with-line .ensures .0, ← tally-counted _ (l .t) _ (sym (c .before .before .is-counted .ensures) ∙ c .before .if2 .taken)) (sym (fold-step _ _ _ _ _ (omega (arith, l .inv .0, c .before .before .before .before .loop-test .taken, c .before .before .before .if1 .left))) ∙ l .inv .4))
+
+add-i-2 : tie.Need-add-i-2 Inv-loop μ-loop
+add-i-2 c = omega arith
+
+loop-less-2 : tie.Need-loop-less-2 Inv-loop μ-loop
+loop-less-2 c = omega arith
+
+loop-again-2 : tie.Need-loop-again-2 Inv-loop μ-loop
+loop-again-2 c =
+    let l = c .before .before .before .before .loop in
+    let e = tally-other _ (l .t) _ (sym (c .before .is-counted .ensures) ∙ c .if2 .left) in
+    (l .inv .0, omega arith, omega arith, omega arith, rw (← e) (sym (fold-step _ _ _ _ _ (omega (arith, l .inv .0, c .before .before .before .loop-test .taken, c .before .before .if1 .left))) ∙ l .inv .4))
 
 returns-2 : tie.Need-returns-2 Inv-loop μ-loop
 returns-2 c =
@@ -62,9 +80,14 @@ walk-spec =
     limit-requires
     loop-holds
     returns
+    mul-is-counted
+    is-counted-requires
     mul-with-line
     with-line-requires
     add-i
     loop-less
     loop-again
+    add-i-2
+    loop-less-2
+    loop-again-2
     returns-2)
