@@ -1,7 +1,7 @@
 -- One line more in a walk, and the turns of its loop.
 -- Assumes nothing.
 use mathlib.Core.Path.{_≡_, refl, ap, sym, _∙_}
-use mathlib.Core.Bool.{Bool, true, false, true≢false}
+use mathlib.Core.Bool.{Bool, true, false, _&&_, true≢false}
 use mathlib.Core.List.{List}
 use Prim.Native.Nat.{ℕ, _+_, _-_, _≤_, _<_}
 use borrow.Author.Tests.{ne-eqb, eq-eqb}
@@ -33,14 +33,11 @@ number-same m symbol at b c l = go (same (part m at 8) symbol) refl
     go true e = eq-eqb _ _ (ap be (same-is (part m at 8) symbol .0 e ∙ sym w)) ∙ sym e
     go false e = ne-eqb _ _ (λ q. true≢false (sym (same-is (part m at 8) symbol .1 (there q)) ∙ e)) ∙ sym e
 
-module _ (m symbol : List ℕ) (at : ℕ) where
-  pub counts-dead : (getD m (at + 39) 0 ≡ 1 → ⊥) → counts symbol (lineFrom m at) ≡ false
-  unfolding counts lineFrom
-  counts-dead h = rw (ne-eqb (getD m (at + 39) 0) 1 h)
-
-  pub counts-live : getD m (at + 39) 0 ≡ 1 → counts symbol (lineFrom m at) ≡ same (part m (at + 11) 8) symbol
-  unfolding counts lineFrom
-  counts-live h = rw (eq-eqb (getD m (at + 39) 0) 1 h)
+-- a line counts if it is live and its symbol's number is that of the symbol
+pub counts-number : (m symbol : List ℕ) (at name : ℕ) → Bytes m → Bytes symbol → length symbol ≡ 8 → name ≡ be (part symbol 0 8)
+    → (eqb (getD m (at + 39) 0) 1 && eqb (be (part m (at + 11) 8)) name) ≡ counts symbol (lineFrom m at)
+unfolding counts lineFrom
+counts-number m symbol at name b c l e = rw (e, number-same m symbol (at + 11) b c l)
 
 module _ (symbol : List ℕ) (t : Figures) (l : Line) where
   pub tally-counted : counts symbol l ≡ true → tally symbol t l ≡ dealt t l

@@ -8,12 +8,14 @@ use lines::SIZE;
 use lines::SYMBOL;
 use sheet::Marks;
 ghost use mathlib.Core.Path.{_≡_};
-ghost use mathlib.Core.Bool.{cond};
+ghost use mathlib.Core.Bool.{cond, _&&_};
 ghost use Prim.Native.Nat.{_+_, _*_, _≤_, _<_, _^_};
-ghost use lib.ListN.{length};
-ghost use Rattle.octets.specs.Run.{part, same};
+ghost use lib.Dec.{eqb};
+ghost use lib.ListN.{length, getD};
+ghost use Rattle.octets.specs.Number.{be};
+ghost use Rattle.octets.specs.Run.{part};
 ghost use Rattle.lines.specs.Lines.{lineFrom, usedLines};
-ghost use Rattle.walk.specs.Figures.{raise, lower, later, counts, sold, dealt, figuresOf};
+ghost use Rattle.walk.specs.Figures.{raise, lower, later, sold, dealt, figuresOf};
 
 pub enum Price {
     Absent,
@@ -97,22 +99,15 @@ fn with_sale(t: Figures, price: u32, size: u32, place: u32, marks: Marks) -> Fig
     }
 }
 
-// Whether the symbol stands from a place on: both as one number of eight bytes.
-fn is_of(lines: &[u8], at: usize, symbol: [u8; 8]) -> bool
-    ensures { λ r. ⌜ r ≡ same (part (now (lines .entry)) at 8) symbol ⌝ }
-{
-    numbers::number8(lines, at) == numbers::number8(&symbol, 0)
-}
-
-// Whether the line whose cell starts at an offset is live and of the symbol.
-fn is_counted(lines: &[u8], at: usize, symbol: [u8; 8]) -> bool
+// Whether the line whose cell starts at an offset is live and of the symbol, which is given as the number of its eight bytes.
+fn is_counted(lines: &[u8], at: usize, symbol: u64) -> bool
     requires { ⌜ at + 40 ≤ length (now lines) ⌝ }
-    ensures { λ r. ⌜ r ≡ counts symbol (lineFrom (now (lines .entry)) at) ⌝ }
+    ensures { λ r. ⌜ r ≡ (eqb (getD (now (lines .entry)) (at + 39) 0) 1 && eqb (be (part (now (lines .entry)) (at + 11) 8)) symbol) ⌝ }
 {
     if octets::run::byte(lines, at + LIVE) != 1 {
         return false;
     }
-    is_of(lines, at + SYMBOL, symbol)
+    numbers::number8(lines, at + SYMBOL) == symbol
 }
 
 // The figures with the trade of the line whose cell starts at an offset.
@@ -135,6 +130,7 @@ pub fn walk(lines: &[u8], used: usize, symbol: [u8; 8]) -> Figures
     ensures { λ r. ⌜ r ≡ figuresOf symbol (usedLines (now (lines .entry)) used) ⌝ }
 {
     let limit = lines::limit(lines.len());
+    let name = numbers::number8(&symbol, 0);
     let mut t = Figures {
         volume: 0,
         count: 0,
@@ -147,7 +143,7 @@ pub fn walk(lines: &[u8], used: usize, symbol: [u8; 8]) -> Figures
         if limit <= i {
             return t;
         }
-        if is_counted(lines, i * CELL, symbol) {
+        if is_counted(lines, i * CELL, name) {
             t = with_line(t, lines, i * CELL);
             i += 1;
             continue;
