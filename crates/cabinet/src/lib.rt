@@ -1,5 +1,6 @@
 // The library as C and Rust link it. Every function takes any counters, any bytes and any slices, asks nothing of its caller,
 // and answers a number of document 01's table. `include/sorundappa.h` says the same in C.
+use answers::Answer;
 ghost use mathlib.Core.Path.{_≡_};
 ghost use Rattle.answers.specs.Answers.{numberOf};
 ghost use Rattle.message.specs.Reading.{readOf};
@@ -8,6 +9,13 @@ ghost use Rattle.book.specs.Counting.{freshCounters};
 ghost use Rattle.book.specs.Calls.{listSaid, listRows, deliverSaid, deliverRows, deliverLines, rowShown};
 ghost use Rattle.words.specs.Words.{countersOf, counterWords, rowWords, recordOf, recordBytes};
 ghost use Rattle.cabinet.specs.Sizes.{sizeOf};
+
+// The number of an answer in the table: what every call but the first and the last tells.
+fn told(a: Answer) -> u8
+    ensures { λ n. ⌜ n ≡ numberOf a ⌝ }
+{
+    answers::number(a)
+}
 
 // The words of a fresh book. No lent byte is written.
 #[no_mangle]
@@ -37,7 +45,7 @@ pub extern "C" fn sorundappa_list(
     let a = s.answer;
     let listed = s.counters;
     words::put_counters(counters, listed);
-    answers::number(a)
+    told(a)
 }
 
 // Delivers a message under its number. Answers 0 to 12 or 17.
@@ -59,7 +67,7 @@ pub extern "C" fn sorundappa_deliver(
     let a = s.answer;
     let after = s.counters;
     words::put_counters(counters, after);
-    answers::number(a)
+    told(a)
 }
 
 // Reads the row of a symbol. Answers 0, 7 or 17; where not 0, every word is 0.
@@ -80,7 +88,7 @@ pub extern "C" fn sorundappa_row(
     let a = s.answer;
     let shown = s.row;
     words::put_row(row, shown);
-    answers::number(a)
+    told(a)
 }
 
 // Reads a message alone. Answers 0, 4 or 5; where not 0, every byte of the record is 0.
@@ -93,7 +101,7 @@ pub extern "C" fn sorundappa_read(message: &[u8], out: &mut [u8; 80]) -> u8
     let a = q.answer;
     let found = q.found;
     words::put_record(out, found);
-    answers::number(a)
+    told(a)
 }
 
 // Writes a record's message. Answers 0, 5 or 18; where not 0, out stays as it was.
@@ -104,7 +112,7 @@ pub extern "C" fn sorundappa_write(bytes: &[u8; 80], out: &mut [u8]) -> u8
 {
     let r = words::record(bytes);
     let a = message::write(r, out);
-    answers::number(a)
+    told(a)
 }
 
 // A size that a caller needs, by its place in the list of sizes; 0 past the end of the list.

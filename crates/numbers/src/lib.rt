@@ -2,7 +2,8 @@
 use octets::run::byte_past;
 use octets::run::put_past;
 ghost use mathlib.Core.Path.{_≡_};
-ghost use Prim.Native.Nat.{_<_, _≤_, min};
+ghost use Prim.Native.Nat.{_+_, _*_, _-_, _<_, _≤_, min};
+ghost use lib.ListN.{length};
 ghost use lib.Seq.{sets};
 ghost use Rattle.octets.specs.Run.{part};
 ghost use Rattle.octets.specs.Number.{be, digits};
@@ -27,15 +28,51 @@ fn number(s: &[u8], at: usize, n: usize) -> u64
     sum
 }
 
+// How many bytes stand from a place on.
+fn left(size: usize, at: usize) -> usize
+    ensures { λ r. ⌜ r ≡ size - at ⌝ }
+{
+    if size < at { 0 } else { size - at }
+}
+
+// Four bytes, each by its weight.
+fn weigh(a: u8, b: u8, c: u8, d: u8) -> u64
+    ensures { λ r. ⌜ (r ≡ a * 16777216 + b * 65536 + c * 256 + d) × (r < 4294967296) ⌝ }
+{
+    (a as u64) * 16777216 + (b as u64) * 65536 + (c as u64) * 256 + (d as u64)
+}
+
+// The number in four bytes that end inside.
+fn four(s: &[u8], at: usize) -> u64
+    requires { ⌜ at + 4 ≤ length (now s) ⌝ }
+    ensures { λ r. ⌜ (r ≡ be (part (now (s .entry)) at 4)) × (r < 4294967296) ⌝ }
+{
+    weigh(s[at], s[at + 1], s[at + 2], s[at + 3])
+}
+
+// The number in eight bytes that end inside.
+fn eight(s: &[u8], at: usize) -> u64
+    requires { ⌜ at + 8 ≤ length (now s) ⌝ }
+    ensures { λ r. ⌜ r ≡ be (part (now (s .entry)) at 8) ⌝ }
+{
+    four(s, at) * 4294967296 + four(s, at + 4)
+}
+
 pub fn number4(s: &[u8], at: usize) -> u32
     ensures { λ r. ⌜ r ≡ be (part (now (s .entry)) at 4) ⌝ }
 {
+    if 4 <= left(s.len(), at) {
+        return four(s, at) as u32;
+    }
     number(s, at, 4) as u32
 }
 
 pub fn number8(s: &[u8], at: usize) -> u64
     ensures { λ r. ⌜ r ≡ be (part (now (s .entry)) at 8) ⌝ }
 {
+    if 8 <= left(s.len(), at) {
+        return eight(s, at);
+    }
     number(s, at, 8)
 }
 

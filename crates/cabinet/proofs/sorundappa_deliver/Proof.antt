@@ -14,8 +14,8 @@ deliver-requires c κs = search needs
 put-counters-requires : tie.Need-put-counters-requires
 put-counters-requires c κs = search needs
 
-number-requires : tie.Need-number-requires
-number-requires c κs = search needs
+told-requires : tie.Need-told-requires
+told-requires c κs = search needs
 
 same-length : tie.Need-same-length
 same-length c = search needs
@@ -26,7 +26,7 @@ same-length-2 c = search needs
 returns : tie.Need-returns
 returns c =
     let a = c .before .before .before .before .before .before .before .before .before .before .before .before .before .before .before .before .args in
-    deliver-said (a .counters .now) (a .rows .now) (a .lines .now) (c .before .before .before .before .before .before .before .before .before .before .before .counters .ensures) (a .number) (a .message .now) (c .before .before .before .before .before .before .before .before .deliver .ensures) (c .before .put-counters .ensures) (c .number .ensures)
+    deliver-said (a .counters .now) (a .rows .now) (a .lines .now) (c .before .before .before .before .before .before .before .before .before .before .before .counters .ensures) (a .number) (a .message .now) (c .before .before .before .before .before .before .before .before .deliver .ensures) (c .before .put-counters .ensures) (c .told .ensures)
 
 pub sorundappa-deliver-spec : {M : Type 1} → statement M
 sorundappa-deliver-spec =
@@ -35,7 +35,7 @@ sorundappa-deliver-spec =
     counters-requires
     deliver-requires
     put-counters-requires
-    number-requires
+    told-requires
     same-length
     same-length-2
     returns)

@@ -14,8 +14,8 @@ list-requires c κs = search needs
 put-counters-requires : tie.Need-put-counters-requires
 put-counters-requires c κs = search needs
 
-number-requires : tie.Need-number-requires
-number-requires c κs = search needs
+told-requires : tie.Need-told-requires
+told-requires c κs = search needs
 
 same-length : tie.Need-same-length
 same-length c = search needs
@@ -23,7 +23,7 @@ same-length c = search needs
 returns : tie.Need-returns
 returns c =
     let a = c .before .before .before .before .before .before .before .before .before .before .before .before .before .args in
-    list-said (a .counters .now) (a .rows .now) (a .lines .now) (c .before .before .before .before .before .before .before .before .counters .ensures) (a .symbol .now) (a .close) (c .before .before .before .before .before .before .list .ensures) (c .before .put-counters .ensures) (c .number .ensures)
+    list-said (a .counters .now) (a .rows .now) (a .lines .now) (c .before .before .before .before .before .before .before .before .counters .ensures) (a .symbol .now) (a .close) (c .before .before .before .before .before .before .list .ensures) (c .before .put-counters .ensures) (c .told .ensures)
 
 pub sorundappa-list-spec : {M : Type 1} → statement M
 sorundappa-list-spec =
@@ -32,6 +32,6 @@ sorundappa-list-spec =
     counters-requires
     list-requires
     put-counters-requires
-    number-requires
+    told-requires
     same-length
     returns)

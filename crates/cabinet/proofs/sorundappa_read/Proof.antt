@@ -16,12 +16,12 @@ read-requires c κs = search needs
 put-record-requires : tie.Need-put-record-requires
 put-record-requires c κs = search needs
 
-number-requires : tie.Need-number-requires
-number-requires c κs = search needs
+told-requires : tie.Need-told-requires
+told-requires c κs = search needs
 
 returns : tie.Need-returns
-returns c = read-said (c .before .before .before .before .before .before .args .message .now) (c .before .before .before .before .read .ensures) (c .before .put-record .ensures) (c .number .ensures)
+returns c = read-said (c .before .before .before .before .before .before .args .message .now) (c .before .before .before .before .read .ensures) (c .before .put-record .ensures) (c .told .ensures)
 
 pub sorundappa-read-spec : {M : Type 1} → statement M
 sorundappa-read-spec =
-    tie.close (tie.spec read-requires put-record-requires number-requires returns)
+    tie.close (tie.spec read-requires put-record-requires told-requires returns)

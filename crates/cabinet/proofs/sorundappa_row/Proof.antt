@@ -14,14 +14,14 @@ row-requires c κs = search needs
 put-row-requires : tie.Need-put-row-requires
 put-row-requires c κs = search needs
 
-number-requires : tie.Need-number-requires
-number-requires c κs = search needs
+told-requires : tie.Need-told-requires
+told-requires c κs = search needs
 
 returns : tie.Need-returns
 returns c =
     let a = c .before .before .before .before .before .before .before .before .before .args in
-    row-said (a .counters .now) (a .rows .now) (a .lines .now) (c .before .before .before .before .before .counters .ensures) (a .symbol .now) (c .before .before .before .before .row .ensures) (c .before .put-row .ensures) (c .number .ensures)
+    row-said (a .counters .now) (a .rows .now) (a .lines .now) (c .before .before .before .before .before .counters .ensures) (a .symbol .now) (c .before .before .before .before .row .ensures) (c .before .put-row .ensures) (c .told .ensures)
 
 pub sorundappa-row-spec : {M : Type 1} → statement M
 sorundappa-row-spec =
-    tie.close (tie.spec counters-requires row-requires put-row-requires number-requires returns)
+    tie.close (tie.spec counters-requires row-requires put-row-requires told-requires returns)
