@@ -13,7 +13,8 @@ use Rattle.book.specs.declared.counters.Counters.{Counters}
 use Rattle.book.specs.declared.Said.{Said}
 use Rattle.book.specs.declared.Shown.{Shown}
 use Rattle.book.specs.Calls.{listSaid, listRows, deliverSaid, deliverRows, deliverLines, rowShown}
-use Rattle.words.specs.Words.{countersOf, counterWords, rowWords, recordOf, recordBytes}
+use Rattle.words.specs.Words.{countersOf, counterWords, rowWords}
+use Rattle.packed.specs.Packed.{recordOf, recordBytes}
 
 module _ (w rows lines : List ℕ) {c : Counters} (e : c ≡ countersOf w) {a : ℕ} where
   pub list-said : (symbol : List ℕ) (close : ℕ) {s : Said} {w₁ rows₁ : List ℕ}

@@ -18,8 +18,8 @@ use Rattle.message.specs.Reading.{readOf}
 use Rattle.message.specs.Writing.{writeAnswer, writeOut}
 use Rattle.message.proofs.Fitting.{read-fits}
 use Rattle.layouts.proofs.Demand2.{read-again}
-use Rattle.words.specs.Words.{recordOf}
-use Rattle.words.proofs.Again.{record-again}
+use Rattle.packed.specs.Packed.{recordOf}
+use Rattle.packed.proofs.Again.{record-again}
 use Rattle.cabinet.proofs.sorundappa_start as start
 use Rattle.cabinet.proofs.sorundappa_start.Reads as start-reads
 use Rattle.cabinet.proofs.sorundappa_start.Kinds as start-kinds

@@ -11,8 +11,8 @@ use Rattle.message.specs.Reading.{lengthBy}
 use Rattle.writer.proofs.Stores.{fits-long}
 use Rattle.rows.specs.Rows.{rowLimit}
 use Rattle.lines.specs.Lines.{lineLimit}
-use Rattle.words.specs.Words.{recordBytes}
-use Rattle.words.proofs.Stores.{record-length}
+use Rattle.packed.specs.Packed.{recordBytes}
+use Rattle.packed.proofs.Stores.{record-length}
 use Rattle.cabinet.specs.Sizes.{sizes, sizeOf}
 
 -- past the end of the list

@@ -7,7 +7,8 @@ ghost use Rattle.message.specs.Reading.{readOf};
 ghost use Rattle.message.specs.Writing.{writeAnswer, writeOut};
 ghost use Rattle.book.specs.Counting.{freshCounters};
 ghost use Rattle.book.specs.Calls.{listSaid, listRows, deliverSaid, deliverRows, deliverLines, rowShown};
-ghost use Rattle.words.specs.Words.{countersOf, counterWords, rowWords, recordOf, recordBytes};
+ghost use Rattle.words.specs.Words.{countersOf, counterWords, rowWords};
+ghost use Rattle.packed.specs.Packed.{recordOf, recordBytes};
 ghost use Rattle.cabinet.specs.Sizes.{sizeOf};
 
 // The number of an answer in the table: what every call but the first and the last tells.
@@ -100,7 +101,7 @@ pub extern "C" fn sorundappa_read(message: &[u8], out: &mut [u8; 80]) -> u8
     let q = message::read(message);
     let a = q.answer;
     let found = q.found;
-    words::put_record(out, found);
+    packed::put_record(out, found);
     told(a)
 }
 
@@ -110,7 +111,7 @@ pub extern "C" fn sorundappa_write(bytes: &[u8; 80], out: &mut [u8]) -> u8
     ensures answer { λ a. ⌜ a ≡ numberOf (writeAnswer (recordOf (now (bytes .entry))) (now (out .entry))) ⌝ }
     ensures out { λ a. ⌜ now (out .exit) ≡ writeOut (recordOf (now (bytes .entry))) (now (out .entry)) ⌝ }
 {
-    let r = words::record(bytes);
+    let r = packed::record(bytes);
     let a = message::write(r, out);
     told(a)
 }

@@ -1,4 +1,4 @@
--- Each public function's contract leaves one possible answer, or one possible content for each lent word or byte. `Learnt` is
+-- Each public function's contract leaves one possible answer, or one possible content for each lent word. `Learnt` is
 -- that contract as the compiler hands it to a caller: of the arguments, of the result, and of the arguments again as the
 -- call returns.
 -- Assumes nothing.
@@ -9,8 +9,7 @@ use borrow.Fn.Kinds.{endedOf}
 use denote.Triple.Clauses.{AtExit}
 use denote.Ref.{now}
 use Rattle.book.specs.declared.counters.Counters.{Counters}
-use Rattle.records.specs.declared.Record.{Record}
-use Rattle.words.specs.Words.{counterWords, countersOf, rowWords, recordBytes, recordOf}
+use Rattle.words.specs.Words.{counterWords, countersOf, rowWords}
 use Rattle.words.proofs.counters as counters
 use Rattle.words.proofs.counters.Reads as counters-reads
 use Rattle.words.proofs.counters.Kinds as counters-kinds
@@ -20,12 +19,6 @@ use Rattle.words.proofs.put_counters.Kinds as put-counters-kinds
 use Rattle.words.proofs.put_row as put-row
 use Rattle.words.proofs.put_row.Reads as put-row-reads
 use Rattle.words.proofs.put_row.Kinds as put-row-kinds
-use Rattle.words.proofs.record as taken
-use Rattle.words.proofs.record.Reads as taken-reads
-use Rattle.words.proofs.record.Kinds as taken-kinds
-use Rattle.words.proofs.put_record as put-record
-use Rattle.words.proofs.put_record.Reads as put-record-reads
-use Rattle.words.proofs.put_record.Kinds as put-record-kinds
 
 module _ (κs : Lfts 1) (a : ArgsD counters.signature κs) where
   pub counters-one : (r r′ : Counters) (s s′ : AtExit (endedOf 1 counters-kinds.ps counters-kinds.r) κs)
@@ -52,19 +45,3 @@ module _ (κs : Lfts 1) (a : ArgsD put-row.signature κs) where
 
   pub put-row-says : (r : Unit) (s : AtExit (endedOf 1 put-row-kinds.ps put-row-kinds.r) κs) → put-row-reads.Learnt κs a r s ≡ (now (s .0) ≡ rowWords (a .1 .0))
   put-row-says r s = refl
-
-module _ (κs : Lfts 1) (a : ArgsD taken.signature κs) where
-  pub record-one : (r r′ : Record) (s s′ : AtExit (endedOf 1 taken-kinds.ps taken-kinds.r) κs) → taken-reads.Learnt κs a r s → taken-reads.Learnt κs a r′ s′ → r ≡ r′
-  record-one r r′ s s′ h h′ = h ∙ sym h′
-
-  pub record-says : (r : Record) (s : AtExit (endedOf 1 taken-kinds.ps taken-kinds.r) κs) → taken-reads.Learnt κs a r s ≡ (r ≡ recordOf (now (a .0)))
-  record-says r s = refl
-
-module _ (κs : Lfts 1) (a : ArgsD put-record.signature κs) where
-  pub put-record-one : (r r′ : Unit) (s s′ : AtExit (endedOf 1 put-record-kinds.ps put-record-kinds.r) κs)
-      → put-record-reads.Learnt κs a r s → put-record-reads.Learnt κs a r′ s′ → now (s .0) ≡ now (s′ .0)
-  put-record-one r r′ s s′ h h′ = h ∙ sym h′
-
-  pub put-record-says : (r : Unit) (s : AtExit (endedOf 1 put-record-kinds.ps put-record-kinds.r) κs)
-      → put-record-reads.Learnt κs a r s ≡ (now (s .0) ≡ recordBytes (a .1 .0))
-  put-record-says r s = refl

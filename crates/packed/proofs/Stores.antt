@@ -11,7 +11,7 @@ use Rattle.octets.proofs.Laws.{sets-then, sets-all, digits-length}
 use Rattle.records.specs.declared.Record.{Record}
 use Rattle.writer.specs.Bytes.{saleBytes}
 use Rattle.writer.proofs.Stores.{Long}
-use Rattle.words.specs.Words.{frontBytes, endBytes, recordBytes}
+use Rattle.packed.specs.Packed.{frontBytes, endBytes, recordBytes}
 
 -- ---- lengths
 

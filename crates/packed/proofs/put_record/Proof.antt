@@ -1,11 +1,11 @@
--- `words::put_record` meets its contract.
+-- `packed::put_record` meets its contract.
 -- Assumes nothing.
 use Rattle.records.specs.Fits.{RecordFits}
 use Rattle.writer.proofs.Stores.{fits-long}
-use Rattle.words.proofs.Stores.{record-over}
+use Rattle.packed.proofs.Stores.{record-over}
 use borrow.Author.Needs.{needs}
-use Rattle.words.proofs.put_record.Statement.{statement}
-use Rattle.words.proofs.put_record.Tie as tie
+use Rattle.packed.proofs.put_record.Statement.{statement}
+use Rattle.packed.proofs.put_record.Tie as tie
 
 -- the record that a call brings fits its types
 pub entered : (c : tie.Start) → RecordFits (c .args .r)

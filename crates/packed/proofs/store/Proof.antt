@@ -1,11 +1,11 @@
--- `words::store` meets its contract.
+-- `packed::store` meets its contract.
 -- Assumes nothing.
 use Rattle.records.specs.Fits.{RecordFits}
 use Rattle.writer.proofs.Stores.{fits-long}
-use Rattle.words.proofs.Stores.{record-stored}
+use Rattle.packed.proofs.Stores.{record-stored}
 use borrow.Author.Needs.{needs}
-use Rattle.words.proofs.store.Statement.{statement}
-use Rattle.words.proofs.store.Tie as tie
+use Rattle.packed.proofs.store.Statement.{statement}
+use Rattle.packed.proofs.store.Tie as tie
 
 -- the record that a call brings fits its types
 pub entered : (c : tie.Start) → RecordFits (c .args .r)
