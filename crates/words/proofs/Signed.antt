@@ -1,6 +1,6 @@
 -- The word of a number of 64 signed bits is its two's complement, as the machine works it out.
 -- Assumes nothing.
-use Prim.Native.Nat.{ℕ, _-_, _<_, _^_}
+use Prim.Native.Nat.{_-_, _<_, _^_}
 use mathlib.Core.Path.{_≡_, ap}
 use mathlib.Core.Bool.{true, false}
 use lib.IntN.{ℤ, pos, negsuc, natAbs}
