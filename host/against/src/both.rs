@@ -134,12 +134,14 @@ impl Both {
     /// Reads a row of both.
     pub fn row(&mut self, symbol: [u8; 8]) -> Held {
         let mut figures = Guarded::new(&[u64::MAX; 15], 0x1234_5678_9ABC_DEF0);
+        let name = Guarded::new(&symbol, 0x22);
         let counters = self.counters.seen().try_into().expect("five words");
-        let told =
-            raw::row(counters, self.rows.seen(), self.lines.seen(), &symbol, figures.array());
+        let lent = name.seen().try_into().expect("eight bytes");
+        let told = raw::row(counters, self.rows.seen(), self.lines.seen(), lent, figures.array());
         let (answer, row) = plain::row(&self.plain, &self.plain_rows, &self.plain_lines, symbol);
         same("row: answer", told, answer.number())?;
         same("row: words", figures.seen(), &row_words(&row)[..])?;
+        unmoved("row: symbol", &symbol, &name)?;
         strips("row", figures.whole())?;
         self.held("row")?;
         Ok(told)
