@@ -3,7 +3,9 @@
 use mathlib.Core.Path.{_≡_, refl, ap, sym, _∙_}
 use mathlib.Core.Bool.{Bool, true, false, _&&_, true≢false}
 use mathlib.Core.List.{List}
-use Prim.Native.Nat.{ℕ, _+_, _-_, _≤_, _<_}
+use Prim.Native.Nat.{ℕ, _+_, _*_, _-_, _≤_, _<_}
+use native.Mathlib.Nat.{add-zero}
+use native.Mathlib.Omega.{arith}
 use borrow.Author.Tests.{ne-eqb, eq-eqb}
 use lib.Dec.{eqb}
 use lib.ListN.{length, getD}
@@ -17,6 +19,14 @@ use Rattle.lines.specs.Lines.{lineFrom}
 use Rattle.lines.specs.declared.Line.{Line}
 use Rattle.walk.specs.declared.Figures.{Figures}
 use Rattle.walk.specs.Figures.{counts, dealt, sold, tally, fold}
+
+-- eight bytes, as two numbers of four
+pub be-eight : (m : List ℕ) (at : ℕ)
+    → (getD m at 0 * 16777216 + getD m (at + 1) 0 * 65536 + getD m (at + 2) 0 * 256 + getD m (at + 3) 0) * 4294967296
+    + (getD m (at + 4) 0 * 16777216 + getD m (at + 5) 0 * 65536 + getD m (at + 6) 0 * 256 + getD m (at + 7) 0)
+    ≡ be (part m at 8)
+unfolding be part tab
+be-eight m at = rw add-zero (omega arith)
 
 -- eight bytes are a symbol's exactly if their number is
 pub number-same : (m symbol : List ℕ) (at : ℕ) → Bytes m → Bytes symbol → length symbol ≡ 8

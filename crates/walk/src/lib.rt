@@ -99,15 +99,24 @@ fn with_sale(t: Figures, price: u32, size: u32, place: u32, marks: Marks) -> Fig
     }
 }
 
+// The number of the eight bytes from a place on.
+fn eight(s: &[u8], at: usize) -> u64
+    requires { ⌜ at + 8 ≤ length (now s) ⌝ }
+    ensures { λ r. ⌜ r ≡ be (part (now (s .entry)) at 8) ⌝ }
+{
+    numbers::weigh(s[at], s[at + 1], s[at + 2], s[at + 3]) * 4294967296
+        + numbers::weigh(s[at + 4], s[at + 5], s[at + 6], s[at + 7])
+}
+
 // Whether the line whose cell starts at an offset is live and of the symbol, which is given as the number of its eight bytes.
 fn is_counted(lines: &[u8], at: usize, symbol: u64) -> bool
     requires { ⌜ at + 40 ≤ length (now lines) ⌝ }
     ensures { λ r. ⌜ r ≡ (eqb (getD (now (lines .entry)) (at + 39) 0) 1 && eqb (be (part (now (lines .entry)) (at + 11) 8)) symbol) ⌝ }
 {
-    if octets::run::byte(lines, at + LIVE) != 1 {
+    if lines[at + LIVE] != 1 {
         return false;
     }
-    numbers::number8(lines, at + SYMBOL) == symbol
+    eight(lines, at + SYMBOL) == symbol
 }
 
 // The figures with the trade of the line whose cell starts at an offset.
