@@ -3,18 +3,12 @@
 use Prim.Native.Nat.{ℕ}
 use mathlib.Core.Path.{_≡_, ap, _∙_}
 use mathlib.Core.List.{List}
-use Rattle.records.specs.declared.Record.{Record}
-use Rattle.message.specs.declared.Reading.{Reading}
-use Rattle.answers.specs.declared.Answer.{Answer}
 use Rattle.answers.specs.Answers.{numberOf}
-use Rattle.message.specs.Reading.{readOf}
-use Rattle.message.specs.Writing.{writeAnswer, writeOut}
 use Rattle.book.specs.declared.counters.Counters.{Counters}
 use Rattle.book.specs.declared.Said.{Said}
 use Rattle.book.specs.declared.Shown.{Shown}
 use Rattle.book.specs.Calls.{listSaid, listRows, deliverSaid, deliverRows, deliverLines, rowShown}
 use Rattle.words.specs.Words.{countersOf, counterWords, rowWords}
-use Rattle.packed.specs.Packed.{recordOf, recordBytes}
 
 module _ (w rows lines : List ℕ) {c : Counters} (e : c ≡ countersOf w) {a : ℕ} where
   pub list-said : (symbol : List ℕ) (close : ℕ) {s : Said} {w₁ rows₁ : List ℕ}
@@ -47,12 +41,3 @@ module _ (w rows lines : List ℕ) {c : Counters} (e : c ≡ countersOf w) {a : 
   row-said symbol h p n =
       let s = h ∙ ap (λ (k : Counters). rowShown k rows lines symbol) e in
       (n ∙ ap (λ (o : Shown). numberOf (o .answer)) s, p ∙ ap (λ (o : Shown). rowWords (o .row)) s)
-
-pub read-said : (message : List ℕ) {q : Reading} {b : List ℕ} {a : ℕ} → q ≡ readOf message → b ≡ recordBytes (q .found) → a ≡ numberOf (q .answer)
-    → (a ≡ numberOf (readOf message .answer)) × (b ≡ recordBytes (readOf message .found))
-read-said message h p n = (n ∙ ap (λ (o : Reading). numberOf (o .answer)) h, p ∙ ap (λ (o : Reading). recordBytes (o .found)) h)
-
-pub write-said : (bytes out : List ℕ) {r : Record} {o : Answer} {out₁ : List ℕ} {a : ℕ}
-    → r ≡ recordOf bytes → (o ≡ writeAnswer r out) × (out₁ ≡ writeOut r out) → a ≡ numberOf o
-    → (a ≡ numberOf (writeAnswer (recordOf bytes) out)) × (out₁ ≡ writeOut (recordOf bytes) out)
-write-said bytes out e h n = (n ∙ ap numberOf (h .0 ∙ ap (λ (q : Record). writeAnswer q out) e), h .1 ∙ ap (λ (q : Record). writeOut q out) e)

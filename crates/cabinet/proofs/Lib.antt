@@ -1,3 +1,4 @@
 pub mod Calls
 pub mod Sizes
+pub mod Refused
 pub mod Promise

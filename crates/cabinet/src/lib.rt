@@ -1,5 +1,6 @@
-// The library as C and Rust link it. Every function takes any counters, any bytes and any slices, asks nothing of its caller,
-// and answers a number of document 01's table. `include/sorundappa.h` says the same in C.
+// The library as C and Rust link it. Every function takes any counters, any bytes and any slices, and asks nothing of its caller. All but
+// `sorundappa_start`, which answers nothing, and `sorundappa_size`, which tells a size, answer a number of document 01's table.
+// `include/sorundappa.h` says the same in C.
 use answers::Answer;
 ghost use mathlib.Core.Path.{_≡_};
 ghost use Rattle.answers.specs.Answers.{numberOf};
@@ -98,10 +99,7 @@ pub extern "C" fn sorundappa_read(message: &[u8], out: &mut [u8; 80]) -> u8
     ensures answer { λ a. ⌜ a ≡ numberOf (readOf (now (message .entry)) .answer) ⌝ }
     ensures bytes { λ a. ⌜ now (out .exit) ≡ recordBytes (readOf (now (message .entry)) .found) ⌝ }
 {
-    let q = message::read(message);
-    let a = q.answer;
-    let found = q.found;
-    packed::put_record(out, found);
+    let a = message::read_packed(message, out);
     told(a)
 }
 
@@ -111,8 +109,7 @@ pub extern "C" fn sorundappa_write(bytes: &[u8; 80], out: &mut [u8]) -> u8
     ensures answer { λ a. ⌜ a ≡ numberOf (writeAnswer (recordOf (now (bytes .entry))) (now (out .entry))) ⌝ }
     ensures out { λ a. ⌜ now (out .exit) ≡ writeOut (recordOf (now (bytes .entry))) (now (out .entry)) ⌝ }
 {
-    let r = packed::record(bytes);
-    let a = message::write(r, out);
+    let a = message::write_packed(bytes, out);
     told(a)
 }
 
@@ -128,6 +125,13 @@ pub extern "C" fn sorundappa_size(which: u64) -> u64
         3 => 65536,
         4 => 67,
         5 => 80,
+        6 => 5,
+        7 => 15,
+        8 => 6,
+        9 => 45,
+        10 => 45,
+        11 => 67,
+        12 => 34,
         _ => 0,
     }
 }

@@ -14,7 +14,8 @@ use Rattle.records.specs.declared.Record.{Record}
 use Rattle.message.specs.declared.Reading.{Reading}
 use Rattle.records.specs.Zeros.{noSale, noRecord}
 use Rattle.records.specs.Lawful.{lawfulOf}
-use Rattle.reader.specs.Fields.{saleAt, fieldsS, fieldsTrade, fieldsT, fieldsC, fieldsJ, fieldsOf}
+use Rattle.packed.specs.Packed.{saleAt}
+use Rattle.message.specs.Fields.{fieldsS, fieldsTrade, fieldsT, fieldsC, fieldsJ, fieldsOf}
 use Rattle.message.specs.Reading.{refusedOf, acceptedOf, judgedOf, misshapen, readOf}
 use Rattle.lines.specs.declared.Line.{Line}
 use Rattle.lines.specs.Lines.{lineLimit, lineBytes, mark, usedLines, lineWith, lineIn, withLine, withDead}

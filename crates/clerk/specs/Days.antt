@@ -27,7 +27,8 @@ use Rattle.octets.specs.Number as Number
 use Rattle.octets.specs.Text as Text
 use Rattle.sheet.specs.Sheet as Sheet
 use Rattle.records.specs.Lawful as Lawful
-use Rattle.reader.specs.Fields as Fields
+use Rattle.packed.specs.Packed.{saleAt}
+use Rattle.message.specs.Fields as Fields
 use Rattle.message.specs.Reading as Reading
 use Rattle.cells.specs.Search as Search
 use Rattle.lines.specs.Lines as Lines
@@ -219,7 +220,7 @@ keptAfter day k (n ∷ ns) = keptAfter day (given k n (day n)) ns
 
 unfoldable pub saidBack : Case → List ℕ
 unfolding Run.tab Run.part Number.be Number.digits Text.text Sheet.sheetAt Sheet.marksOf Sheet.conditionMarks
-    Reading.lengthBy Fields.saleAt Fields.fieldsS Fields.fieldsTrade Fields.fieldsJ Fields.fieldsOf Lawful.saleOk Lawful.saleNone Lawful.pricesNone Lawful.tradeOk Lawful.lawfulS Lawful.lawfulT Lawful.lawfulC Lawful.lawfulJ Lawful.lawfulOf Reading.judgedOf Reading.readOf
+    Reading.lengthBy saleAt Fields.fieldsS Fields.fieldsTrade Fields.fieldsJ Fields.fieldsOf Lawful.saleOk Lawful.saleNone Lawful.pricesNone Lawful.tradeOk Lawful.lawfulS Lawful.lawfulT Lawful.lawfulC Lawful.lawfulJ Lawful.lawfulOf Reading.judgedOf Reading.readOf
     Search.first Lines.lineFrom Lines.lineBytes Lines.usedLines Lines.lineIn Lines.withLine Lines.withDead
     Rows.summaryAt Rows.reportedAt Rows.rowFrom Rows.newRow Rows.reportBytes Rows.summaryBytes Rows.usedRows Rows.rowIn Rows.inRow
     Figures.counts Figures.sold Figures.tally Figures.fold Figures.figuresOf Showing.shownOf

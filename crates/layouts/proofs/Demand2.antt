@@ -21,14 +21,14 @@ use Rattle.records.specs.Fits.{RecordFits}
 use Rattle.layouts.specs.Layouts.{letterOf, lengthOf, layoutOf, stands, holds, fieldOf, isZero, Each, allFields, lacked, Shaped, Obeys, Lawful}
 use Rattle.records.specs.Zeros.{noRecord}
 use Rattle.records.specs.Lawful.{lawfulOf}
-use Rattle.reader.specs.Fields.{fieldsOf}
+use Rattle.message.specs.Fields.{fieldsOf}
 use Rattle.message.specs.Reading.{lengthBy, misshapen, refusedOf, acceptedOf, judgedOf, readOf}
-use Rattle.writer.specs.Bytes.{bytesOf}
+use Rattle.message.specs.Bytes.{bytesOf}
 use Rattle.message.specs.Writing.{writeAnswer, writeOut}
 use Rattle.layouts.proofs.Letters.{long-letter}
 use Rattle.layouts.proofs.Lawful.{all-each, lawful-is, is-lawful}
 use Rattle.layouts.proofs.Exactly.{letter-of, stood, lacks, shape-parts, shaped-is, is-shaped, obeys-is, is-obeys}
-use Rattle.writer.proofs.Stores.{fits-long}
+use Rattle.packed.proofs.Stores.{fits-long}
 use Rattle.message.proofs.Lengths.{bytes-length}
 use Rattle.message.proofs.Said.{Said, unshaped, unkept, obeyed, said}
 use Rattle.layouts.proofs.Trips.{fields-again, bytes-again, letter-again}

@@ -10,7 +10,8 @@ use lib.Dec.{eqb}
 use lib.ListN.{length, getD}
 use Rattle.records.specs.declared.Record.{Record}
 use Rattle.records.specs.Lawful.{lawfulOf}
-use Rattle.reader.specs.Fields.{saleAt, fieldsS, fieldsTrade, fieldsT, fieldsC, fieldsJ, fieldsOf}
+use Rattle.packed.specs.Packed.{saleAt}
+use Rattle.message.specs.Fields.{fieldsS, fieldsTrade, fieldsT, fieldsC, fieldsJ, fieldsOf}
 use Rattle.message.specs.Reading.{lengthBy, misshapen}
 use Rattle.layouts.specs.Layouts.{Entry, MessageType, S, T, X, C, J, letterOf, lengthOf, layoutOf, stands, holds, fieldOf, keeps, isZero, Each, lacked, Shaped, Obeys}
 use Rattle.layouts.proofs.Letters.{Which, typed, none, which, byType, chosen-by, long-letter, long-some, typed-by}

@@ -14,7 +14,8 @@ use Rattle.sheet.specs.Sheet.{sheetAt, conditionMarks}
 use Rattle.answers.specs.Answers.{numberOf}
 use Rattle.layouts.specs.Layouts.{MessageType, S, T, X, C, J, letterOf, Obeys}
 use Rattle.records.specs.Lawful.{saleOk, saleNone, pricesNone, tradeOk, lawfulS, lawfulT, lawfulC, lawfulJ, lawfulOf}
-use Rattle.reader.specs.Fields.{saleAt, fieldsS, fieldsTrade, fieldsJ, fieldsOf}
+use Rattle.packed.specs.Packed.{saleAt}
+use Rattle.message.specs.Fields.{fieldsS, fieldsTrade, fieldsJ, fieldsOf}
 use Rattle.message.specs.Reading.{lengthBy, judgedOf, readOf}
 use Rattle.layouts.proofs.Demand2.{read-exactly}
 

@@ -4,8 +4,7 @@
 use mathlib.Core.Path.{_≡_, refl, ap, sym, _∙_}
 use mathlib.Core.Bool.{true}
 use mathlib.Core.List.{List, [], _∷_, _++_, append-assoc}
-use Prim.Native.Nat.{ℕ, _+_, _^_, _<_}
-use native.Mathlib.Omega.{arith}
+use Prim.Native.Nat.{ℕ, _+_}
 use borrow.Author.Tests.{eqb-true}
 use lib.Dec.{eqb}
 use lib.ListN.{length, drop, getD}
@@ -13,15 +12,18 @@ use Rattle.octets.specs.Run.{part, Bytes}
 use Rattle.octets.specs.Number.{be, digits}
 use Rattle.octets.specs.Text.{all}
 use Rattle.octets.proofs.Laws.{digits-length}
-use Rattle.octets.proofs.Trips.{be-digits, digits-part, alone, link, join, whole, walk, step, here, last, first, zeros}
+use Rattle.octets.proofs.Trips.{digits-part, alone, link, join, whole, walk, step, here, first, zeros}
 use Rattle.records.specs.declared.Sale.{Sale}
 use Rattle.records.specs.declared.Record.{Record}
 use Rattle.records.specs.Fits.{SaleFits, RecordFits}
 use Rattle.layouts.specs.Layouts.{MessageType, S, T, X, C, J, letterOf, lengthOf, layoutOf, lacked, holds, isZero, Each}
 use Rattle.records.specs.Zeros.{noSale}
-use Rattle.reader.specs.Fields.{saleAt, fieldsS, fieldsTrade, fieldsT, fieldsC, fieldsJ, fieldsOf}
-use Rattle.writer.specs.Bytes.{saleBytes, headBytes, priceBytes, bytesS, bytesT, bytesC, bytesJ, bytesOf}
-use Rattle.writer.proofs.Stores.{sale-length, head-length}
+use Rattle.message.specs.Fields.{fieldsS, fieldsTrade, fieldsT, fieldsC, fieldsJ, fieldsOf}
+use Rattle.packed.specs.Packed.{saleBytes}
+use Rattle.packed.proofs.Stores.{sale-length}
+use Rattle.packed.proofs.Again.{sale-of, record-of, number-here, number-last, sale-here, sale-again}
+use Rattle.message.specs.Bytes.{headBytes, priceBytes, bytesS, bytesT, bytesC, bytesJ, bytesOf}
+use Rattle.message.proofs.Lengths.{head-length}
 use Rattle.layouts.proofs.Letters.{byType, chosen-by}
 use Rattle.layouts.proofs.Exactly.{fieldsAs, fields-as, letter-of}
 
@@ -37,17 +39,6 @@ bytes-as r k e = chosen-by (r .letter) k e (bytesS r) (bytesT r) (bytesC r) (byt
 -- ---- read, then written
 
 module _ (m : List ℕ) (b : Bytes m) where
-  pub sale-again : (at : ℕ) → saleBytes (saleAt m at) ≡ part m at 22
-  unfolding saleBytes saleAt
-  sale-again at =
-      rw (
-        digits-part m (at + 10) 4 b,
-        digits-part m (at + 14) 4 b,
-        join m (at + 14) 4 4 (at + 18) (omega arith),
-        join m (at + 10) 4 8 (at + 14) (omega arith),
-        join m at 10 12 (at + 10) refl,
-      )
-
   -- the first 15 bytes of T, X and C
   head-again : digits 4 (be (part m 0 4)) ++ (getD m 4 0 ∷ getD m 5 0 ∷ (part m 6 8 ++ (getD m 14 0 ∷ []))) ≡ part m 0 15
   head-again =
@@ -60,15 +51,15 @@ module _ (m : List ℕ) (b : Bytes m) where
   t-again : length m ≡ 45 → bytesT (fieldsT m) ≡ m
   unfolding bytesT headBytes fieldsTrade
   t-again h =
-      rw (head-again, sale-again 15, digits-part m 37 8 b, join m 15 22 8 37 refl, join m 0 15 30 15 refl) (whole m 45 h)
+      rw (head-again, sale-again m b 15, digits-part m 37 8 b, join m 15 22 8 37 refl, join m 0 15 30 15 refl) (whole m 45 h)
 
   c-again : length m ≡ 67 → bytesC (fieldsC m) ≡ m
   unfolding bytesC headBytes fieldsTrade
   c-again h =
       rw (
         head-again,
-        sale-again 15,
-        sale-again 37,
+        sale-again m b 15,
+        sale-again m b 37,
         digits-part m 59 8 b,
         join m 37 22 8 59 refl,
         join m 15 22 30 37 refl,
@@ -105,39 +96,6 @@ module _ (m : List ℕ) (b : Bytes m) where
       go J h = j-again h
 
 -- ---- written, then read
-
-sale-of : (s : Sale) (c : List ℕ) (p z : ℕ) (d : List ℕ) → c ≡ s .control → p ≡ s .price → z ≡ s .size → d ≡ s .condition
-    → _≡_ {A = Sale} (record { control = c; price = p; size = z; condition = d }) s
-sale-of s c p z d e f g h = rw (e, f, g, h)
-
-pub record-of : (r : Record) (k t e c : ℕ) (y : List ℕ) (l : ℕ) (o n : Sale) (h w z v : ℕ)
-    → k ≡ r .letter → t ≡ r .time → e ≡ r .event → c ≡ r .centre → y ≡ r .symbol → l ≡ r .class → o ≡ r .sale → n ≡ r .new → h ≡ r .high → w ≡ r .low → z ≡ r .close → v ≡ r .consolidated
-    → _≡_ {A = Record}
-    (record { letter = k; time = t; event = e; centre = c; symbol = y; class = l; sale = o; new = n; high = h; low = w; close = z; consolidated = v }) r
-record-of r k t e c y l o n h w z v p1 p2 p3 p4 p5 p6 p7 p8 p9 p10 p11 p12 = rw (p1, p2, p3, p4, p5, p6, p7, p8, p9, p10, p11, p12)
-
--- a number that was written is read
-pub number-here : (m : List ℕ) (at w x : ℕ) (ys : List ℕ) → x < 256 ^ w → drop at m ≡ digits w x ++ ys → be (part m at w) ≡ x
-number-here m at w x ys h d = ap be (here m at w (digits w x) ys d (digits-length w x)) ∙ be-digits w x h
-
-pub number-last : (m : List ℕ) (at w x : ℕ) → x < 256 ^ w → drop at m ≡ digits w x → be (part m at w) ≡ x
-number-last m at w x h d = ap be (last m at w (digits w x) d (digits-length w x)) ∙ be-digits w x h
-
-pub sale-here : (m : List ℕ) (n : ℕ) (s : Sale) (ys : List ℕ) → SaleFits s → drop n m ≡ saleBytes s ++ ys → saleAt m n ≡ s
-unfolding saleAt saleBytes
-sale-here m n s ys t d =
-    let p = digits 4 (s .price) in
-    let z = digits 4 (s .size) in
-    let c = s .condition in
-    let d0 : drop n m ≡ s .control ++ (p ++ (z ++ (c ++ ys))) = d ∙ simp append-assoc in
-    let d1 : drop (n + 10) m ≡ p ++ (z ++ (c ++ ys)) = walk m n 10 (n + 10) (s .control) _ d0 (t .control) refl in
-    let d2 : drop (n + 14) m ≡ z ++ (c ++ ys) = walk m (n + 10) 4 (n + 14) p _ d1 (digits-length 4 (s .price)) (omega arith) in
-    let d3 : drop (n + 18) m ≡ c ++ ys = walk m (n + 14) 4 (n + 18) z _ d2 (digits-length 4 (s .size)) (omega arith) in
-    sale-of s _ _ _ _
-    (here m n 10 (s .control) _ d0 (t .control))
-    (number-here m (n + 10) 4 (s .price) _ (t .price) d1)
-    (number-here m (n + 14) 4 (s .size) _ (t .size) d2)
-    (here m (n + 18) 4 c _ d3 (t .condition))
 
 zero-is : (x : ℕ) → eqb x 0 ≡ true → 0 ≡ x
 zero-is x e = sym (eqb-true x 0 e)

@@ -9,8 +9,8 @@ use Rattle.records.specs.declared.Record.{Record}
 use Rattle.records.specs.Fits.{RecordFits}
 use Rattle.records.specs.Zeros.{noRecord}
 use Rattle.records.proofs.Fitting.{no-record-fits}
-use Rattle.reader.specs.Fields.{fieldsOf}
-use Rattle.reader.proofs.Fitting.{fields-fit}
+use Rattle.message.specs.Fields.{fieldsOf}
+use Rattle.message.proofs.Filled.{fields-fit}
 use Rattle.message.specs.declared.Reading.{Reading}
 use Rattle.message.specs.Reading.{readOf}
 use Rattle.message.proofs.Said.{Said, unshaped, unkept, obeyed, said}

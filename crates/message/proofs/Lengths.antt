@@ -1,4 +1,4 @@
--- How long what is written is, by the letter.
+-- How long what is written is, type by type and by the letter.
 -- Assumes nothing.
 use mathlib.Core.Path.{_≡_, refl, ap, sym, _∙_}
 use mathlib.Core.Bool.{Bool, true, false}
@@ -7,12 +7,42 @@ use Prim.Native.Nat.{ℕ}
 use native.Mathlib.Omega.{arith}
 use borrow.Author.Tests.{eqb-true}
 use lib.Dec.{eqb}
-use lib.ListN.{length}
+use lib.ListN.{length, length-append}
 use Rattle.records.specs.declared.Record.{Record}
 use Rattle.records.specs.Lawful.{lawfulOf}
-use Rattle.writer.specs.Bytes.{bytesS, bytesT, bytesC, bytesJ, bytesOf}
-use Rattle.writer.proofs.Stores.{Long, s-length, t-length, c-length, j-length}
+use Rattle.octets.proofs.Laws.{digits-length}
+use Rattle.message.specs.Bytes.{headBytes, priceBytes, bytesS, bytesT, bytesC, bytesJ, bytesOf}
+use Rattle.packed.proofs.Stores.{Long}
 use Rattle.message.specs.Reading.{lengthBy}
+
+pub head-length : (r : Record) → length (r .symbol) ≡ 8 → length (headBytes r) ≡ 15
+unfolding headBytes
+head-length r e = simp (length-append, digits-length, e)
+
+prices-length : (r : Record) → length (priceBytes r) ≡ 12
+unfolding priceBytes
+prices-length r = simp (length-append, digits-length)
+
+-- ---- how long the bytes of each type are
+
+module _ (r : Record) (g : Long r) where
+  pub s-length : length (bytesS r) ≡ 6
+  unfolding bytesS
+  s-length = simp (length-append, digits-length)
+
+  pub t-length : length (bytesT r) ≡ 45
+  unfolding bytesT
+  t-length = simp (length-append, digits-length, head-length r (g .symbol), g .sale)
+
+  pub c-length : length (bytesC r) ≡ 67
+  unfolding bytesC
+  c-length = simp (length-append, digits-length, head-length r (g .symbol), g .sale, g .new)
+
+  pub j-length : length (bytesJ r) ≡ 34
+  unfolding bytesJ
+  j-length = simp (length-append, digits-length, g .symbol, prices-length r)
+
+-- ---- and by the letter
 
 module _ (r : Record) (g : Long r) where
   pub bytes-length : lawfulOf r ≡ true → length (bytesOf r) ≡ lengthBy (r .letter)

@@ -9,6 +9,7 @@ use borrow.Fn.Kinds.{endedOf}
 use denote.Triple.Clauses.{AtExit}
 use denote.Ref.{now}
 use Rattle.answers.specs.declared.Answer.{Answer}
+use Rattle.packed.specs.Packed.{recordBytes, recordOf}
 use Rattle.message.specs.declared.Reading.{Reading}
 use Rattle.message.specs.Reading.{readOf}
 use Rattle.message.specs.Writing.{writeAnswer, writeOut}
@@ -18,6 +19,12 @@ use Rattle.message.proofs.read.Kinds as read-kinds
 use Rattle.message.proofs.write as write
 use Rattle.message.proofs.write.Reads as write-reads
 use Rattle.message.proofs.write.Kinds as write-kinds
+use Rattle.message.proofs.read_packed as read-packed
+use Rattle.message.proofs.read_packed.Reads as read-packed-reads
+use Rattle.message.proofs.read_packed.Kinds as read-packed-kinds
+use Rattle.message.proofs.write_packed as write-packed
+use Rattle.message.proofs.write_packed.Reads as write-packed-reads
+use Rattle.message.proofs.write_packed.Kinds as write-packed-kinds
 
 module _ (κs : Lfts 1) (a : ArgsD read.signature κs) where
   -- what `read` tells of a message is what `readOf` says of its bytes, and nothing else
@@ -35,3 +42,21 @@ module _ (κs : Lfts 1) (a : ArgsD write.signature κs) where
   pub write-one : (r r′ : Answer) (s s′ : AtExit (endedOf 1 write-kinds.ps write-kinds.r) κs)
       → write-reads.Learnt κs a r s → write-reads.Learnt κs a r′ s′ → (r ≡ r′) × (now (s .1 .0) ≡ now (s′ .1 .0))
   write-one r r′ s s′ h h′ = (h .0 ∙ sym (h′ .0), h .1 ∙ sym (h′ .1))
+
+module _ (κs : Lfts 2) (a : ArgsD read-packed.signature κs) where
+  pub read-packed-one : (r r′ : Answer) (s s′ : AtExit (endedOf 2 read-packed-kinds.ps read-packed-kinds.r) κs)
+      → read-packed-reads.Learnt κs a r s → read-packed-reads.Learnt κs a r′ s′ → (r ≡ r′) × (now (s .1 .0) ≡ now (s′ .1 .0))
+  read-packed-one r r′ s s′ h h′ = (h .0 ∙ sym (h′ .0), h .1 ∙ sym (h′ .1))
+
+  pub read-packed-says : (r : Answer) (s : AtExit (endedOf 2 read-packed-kinds.ps read-packed-kinds.r) κs)
+      → read-packed-reads.Learnt κs a r s ≡ ((r ≡ readOf (now (a .0)) .answer) × (now (s .1 .0) ≡ recordBytes (readOf (now (a .0)) .found)))
+  read-packed-says r s = refl
+
+module _ (κs : Lfts 2) (a : ArgsD write-packed.signature κs) where
+  pub write-packed-one : (r r′ : Answer) (s s′ : AtExit (endedOf 2 write-packed-kinds.ps write-packed-kinds.r) κs)
+      → write-packed-reads.Learnt κs a r s → write-packed-reads.Learnt κs a r′ s′ → (r ≡ r′) × (now (s .1 .0) ≡ now (s′ .1 .0))
+  write-packed-one r r′ s s′ h h′ = (h .0 ∙ sym (h′ .0), h .1 ∙ sym (h′ .1))
+
+  pub write-packed-says : (r : Answer) (s : AtExit (endedOf 2 write-packed-kinds.ps write-packed-kinds.r) κs)
+      → write-packed-reads.Learnt κs a r s ≡ ((r ≡ writeAnswer (recordOf (now (a .0))) (now (a .1 .0))) × (now (s .1 .0) ≡ writeOut (recordOf (now (a .0))) (now (a .1 .0))))
+  write-packed-says r s = refl

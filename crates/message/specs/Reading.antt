@@ -11,7 +11,7 @@ use Rattle.answers.specs.declared.Answer.{Answer}
 use Rattle.records.specs.declared.Record.{Record}
 use Rattle.records.specs.Lawful.{lawfulOf}
 use Rattle.records.specs.Zeros.{noRecord}
-use Rattle.reader.specs.Fields.{fieldsOf}
+use Rattle.message.specs.Fields.{fieldsOf}
 use Rattle.message.specs.declared.Reading.{Reading}
 
 -- the length of a type's messages, by its letter S T X C J; 0 for any other letter

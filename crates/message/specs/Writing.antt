@@ -9,7 +9,7 @@ use Rattle.answers.specs.Answers.{answerOf}
 use Rattle.answers.specs.declared.Answer.{Answer}
 use Rattle.records.specs.declared.Record.{Record}
 use Rattle.records.specs.Lawful.{lawfulOf}
-use Rattle.writer.specs.Bytes.{bytesOf}
+use Rattle.message.specs.Bytes.{bytesOf}
 use Rattle.message.specs.Reading.{lengthBy}
 
 -- what writing a record into lent bytes answers: a broken rule goes before a short space

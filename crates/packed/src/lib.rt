@@ -8,12 +8,30 @@ use octets::run::byte;
 use octets::run::fill;
 use octets::run::paste;
 use octets::run::put_byte;
-use reader::sale_at;
 use records::Record;
-use writer::put_sale;
+use records::Sale;
 ghost use mathlib.Core.Path.{_≡_};
 ghost use lib.Seq.{sets};
 ghost use Rattle.packed.specs.Packed as W;
+
+// Control, price, size and condition, from a place on, of eight bits so that no sum overflows.
+fn sale_at(m: &[u8], at: u8) -> Sale
+    ensures { λ r. ⌜ r ≡ W.saleAt (now (m .entry)) at ⌝ }
+{
+    let place = at as usize;
+    let mut control = [0u8; 10];
+    fill(&mut control, m, place);
+    let price = number4(m, place + 10);
+    let size = number4(m, place + 14);
+    let mut condition = [0u8; 4];
+    fill(&mut condition, m, place + 18);
+    Sale {
+        control: control,
+        price: price,
+        size: size,
+        condition: condition,
+    }
+}
 
 // The record that stands at the front of bytes.
 fn record_in(b: &[u8]) -> Record
@@ -53,6 +71,19 @@ pub fn record(b: &[u8; 80]) -> Record
     ensures { λ r. ⌜ r ≡ W.recordOf (now (b .entry)) ⌝ }
 {
     record_in(b)
+}
+
+// The same fields, stored.
+fn put_sale(out: &mut [u8], at: u8, s: Sale)
+    ensures { λ _. ⌜ now (out .exit) ≡ sets (now (out .entry)) at (W.saleBytes s) ⌝ }
+{
+    let place = at as usize;
+    let control = s.control;
+    let condition = s.condition;
+    paste(out, place, &control);
+    put4(out, place + 10, s.price);
+    put4(out, place + 14, s.size);
+    paste(out, place + 18, &condition);
 }
 
 // The first 16 bytes: letter, time, event, centre, symbol, class.

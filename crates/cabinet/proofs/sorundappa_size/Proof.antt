@@ -1,6 +1,7 @@
 -- `cabinet::sorundappa_size` meets its contract.
 -- Assumes nothing.
-use mathlib.Core.Path.{sym}
+use Prim.Native.Nat.{ℕ, _+_, _≤_}
+use mathlib.Core.Path.{_≡_, sym}
 use native.Mathlib.Omega.{arith}
 use Rattle.cabinet.specs.Sizes.{sizeOf}
 use Rattle.cabinet.proofs.Sizes.{size-none}
@@ -32,10 +33,42 @@ unfolding sizeOf
 returns-6 c = rw (c .match .keys6)
 
 returns-7 : tie.Need-returns-7
-returns-7 c =
+unfolding sizeOf
+returns-7 c = rw (c .match .keys7)
+
+returns-8 : tie.Need-returns-8
+unfolding sizeOf
+returns-8 c = rw (c .match .keys8)
+
+returns-9 : tie.Need-returns-9
+unfolding sizeOf
+returns-9 c = rw (c .match .keys9)
+
+returns-10 : tie.Need-returns-10
+unfolding sizeOf
+returns-10 c = rw (c .match .keys10)
+
+returns-11 : tie.Need-returns-11
+unfolding sizeOf
+returns-11 c = rw (c .match .keys11)
+
+returns-12 : tie.Need-returns-12
+unfolding sizeOf
+returns-12 c = rw (c .match .keys12)
+
+returns-13 : tie.Need-returns-13
+unfolding sizeOf
+returns-13 c = rw (c .match .keys13)
+
+-- a number that is not the next one is past it
+up : (n k : ℕ) → k ≤ n → (n ≡ k → ⊥) → k + 1 ≤ n
+up n k h e = omega arith
+
+returns-14 : tie.Need-returns-14
+returns-14 c =
     let r = c .match .rest in
-    sym (size-none (c .before .args .which) (omega (arith, r .0 .0 .0 .0 .0 .1, r .0 .0 .0 .0 .1, r .0 .0 .0 .1, r .0 .0 .1, r .0 .1, r .1)))
+    let w = c .before .args .which in
+    sym (size-none w (up w 12 (up w 11 (up w 10 (up w 9 (up w 8 (up w 7 (up w 6 (up w 5 (up w 4 (up w 3 (up w 2 (up w 1 (up w 0 (omega arith) (r .0 .0 .0 .0 .0 .0 .0 .0 .0 .0 .0 .0 .1)) (r .0 .0 .0 .0 .0 .0 .0 .0 .0 .0 .0 .1)) (r .0 .0 .0 .0 .0 .0 .0 .0 .0 .0 .1)) (r .0 .0 .0 .0 .0 .0 .0 .0 .0 .1)) (r .0 .0 .0 .0 .0 .0 .0 .0 .1)) (r .0 .0 .0 .0 .0 .0 .0 .1)) (r .0 .0 .0 .0 .0 .0 .1)) (r .0 .0 .0 .0 .0 .1)) (r .0 .0 .0 .0 .1)) (r .0 .0 .0 .1)) (r .0 .0 .1)) (r .0 .1)) (r .1)))
 
 pub sorundappa-size-spec : {M : Type 1} → statement M
-sorundappa-size-spec =
-    tie.close (tie.spec returns returns-2 returns-3 returns-4 returns-5 returns-6 returns-7)
+sorundappa-size-spec = tie.close (tie.spec returns returns-2 returns-3 returns-4 returns-5 returns-6 returns-7 returns-8 returns-9 returns-10 returns-11 returns-12 returns-13 returns-14)

@@ -1,10 +1,12 @@
 -- `message::write` meets its contract.
 -- Assumes nothing.
-use mathlib.Core.Path.{sym, _∙_}
-use borrow.Author.Needs.{needs}
+use mathlib.Core.Path.{ap, _∙_}
+use Rattle.records.specs.declared.Record.{Record}
 use Rattle.records.specs.Fits.{RecordFits}
-use Rattle.writer.proofs.Stores.{fits-long}
-use Rattle.message.proofs.Written.{written-done, written-short, written-broken}
+use Rattle.packed.specs.Packed.{recordOf}
+use Rattle.packed.proofs.Again.{record-again}
+use Rattle.message.specs.Writing.{writeAnswer, writeOut}
+use borrow.Author.Needs.{needs}
 use Rattle.message.proofs.write.Statement.{statement}
 use Rattle.message.proofs.write.Tie as tie
 
@@ -22,42 +24,23 @@ entered c =
       consolidated = search needs;
     }
 
-lawful-requires : tie.Need-lawful-requires
-lawful-requires c κs = search needs
+put-record-requires : tie.Need-put-record-requires
+put-record-requires c κs = search needs
 
-length-of-requires : tie.Need-length-of-requires
-length-of-requires c κs = search needs
-
-store-requires : tie.Need-store-requires
-store-requires c κs = search needs
+write-packed-requires : tie.Need-write-packed-requires
+write-packed-requires c κs = search needs
 
 same-length : tie.Need-same-length
 same-length c = search needs
 
 returns : tie.Need-returns
 returns c =
-    let d = c .before .before .before .before .before .before .before .before in
-    let w = written-done (d .args .r) (d .args .out .now) (fits-long (d .args .r) (entered d)) (rw (c .before .before .before .before .before .before .lawful .ensures, c .before .before .before .before .before .length-of .ensures) at (c .before .before .before .before .if1 .taken)) in
-    (w .0, c .before .before .store .ensures ∙ w .1)
-
-returns-2 : tie.Need-returns-2
-returns-2 c =
-    let a = c .before .before .before .before .before .args in
-    written-short (a .r) (a .out .now) (rw (c .before .before .before .lawful .ensures, c .before .before .length-of .ensures) at (c .before .if1 .left)) (sym (c .before .before .before .lawful .ensures) ∙ c .if2 .taken)
-
-returns-3 : tie.Need-returns-3
-returns-3 c =
-    let a = c .before .before .before .before .before .args in
-    written-broken (a .r) (a .out .now) (sym (c .before .before .before .lawful .ensures) ∙ c .if2 .left)
+    let s = c .before .before .before .before .before .before .before .before in
+    let r = s .args .r in
+    let out = s .args .out .now in
+    let e = ap recordOf (c .before .before .before .before .before .put-record .ensures) ∙ record-again r (entered s) in
+    let w = c .before .before .write-packed .ensures in
+    (w .0 ∙ ap (λ (q : Record). writeAnswer q out) e, w .1 ∙ ap (λ (q : Record). writeOut q out) e)
 
 pub write-spec : {M : Type 1} → statement M
-write-spec =
-    tie.close
-    (tie.spec
-    lawful-requires
-    length-of-requires
-    store-requires
-    same-length
-    returns
-    returns-2
-    returns-3)
+write-spec = tie.close (tie.spec put-record-requires write-packed-requires same-length returns)
