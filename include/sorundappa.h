@@ -1,6 +1,9 @@
 /* The book of one trading day, as a program in C links it: libcabinet.a. Every function is proved for every input
- * (docs/PROMISES.md); none asks anything of its caller beyond C's own rules: each pointer is good for its length, pieces that
- * are written do not overlap others, and a length of 0 still comes with a pointer that is not null.
+ * (docs/PROMISES.md): whatever counters, numbers and bytes arrive, none counts on its caller for a check.
+ *
+ * As everywhere in C, each pointer is good for the length beside it, or for the array that is declared. Two things more the library
+ * demands, which C does not: a pointer is never null, also where the length beside it is 0 (no room at all is the address of anything
+ * and 0, not NULL and 0); and a piece that a call writes overlaps nothing else that the call is lent.
  *
  * The caller owns all memory: five words of counters, and two runs of bytes for rows and lines. Nothing is allocated, nothing is
  * kept between calls, and no byte outside what was lent is read or written.
@@ -15,7 +18,7 @@
 extern "C" {
 #endif
 
-/* Answers: the numbers of the table in document 01. */
+/* Answers: the numbers of the table in document 01. 17 goes first; otherwise the lowest from 1 up that applies is given. */
 enum sorundappa_answer {
     SORUNDAPPA_DONE = 0,
     SORUNDAPPA_NUMBER_OUTSIDE = 1,  /* the number is 0 or above 4,294,967,295 */
@@ -27,7 +30,7 @@ enum sorundappa_answer {
     SORUNDAPPA_NOT_LISTED = 7,      /* the symbol is not on the sheet */
     SORUNDAPPA_NO_LINE = 8,         /* X, C: no line bears the original's key */
     SORUNDAPPA_LINE_DEAD = 9,       /* X, C: that line is dead */
-    SORUNDAPPA_LINE_DIFFERS = 10,   /* X, C: symbol, price, size or condition differs */
+    SORUNDAPPA_LINE_DIFFERS = 10,   /* X, C: symbol, price, size or condition differs from that line */
     SORUNDAPPA_KEY_USED = 11,       /* T, C: the new key is on a line already */
     SORUNDAPPA_LINES_FULL = 12,     /* T, C: every line is used */
     SORUNDAPPA_LISTING_BROKEN = 13, /* listing: symbol or close breaks its rule */
@@ -44,30 +47,27 @@ enum sorundappa_counter {
     SORUNDAPPA_PHASE,
     SORUNDAPPA_ROWS,
     SORUNDAPPA_LINES,
-    SORUNDAPPA_TAKEN,
-    SORUNDAPPA_COUNTERS
+    SORUNDAPPA_TAKEN
 };
 
-/* The words of a row. A HAS word is 1 where the figure behind it is there, and 0, with a figure of 0, where it is absent.
- * The symbol is its eight bytes as one number, the first the highest; the net change is an int64_t's bits. Prices are in
- * ten-thousandths. */
+/* The words of a row. A HAS word is 1 where the figure behind it is there, and 0, with a figure of 0, where it is absent. Prices
+ * are in ten-thousandths. Last, high, low, volume and count are over the live lines of the symbol only. */
 enum sorundappa_figure {
-    SORUNDAPPA_SYMBOL,
-    SORUNDAPPA_CLOSE,
+    SORUNDAPPA_SYMBOL, /* its eight bytes as one number, the first the highest */
+    SORUNDAPPA_CLOSE,  /* the adjusted previous close, 0 if it is unknown */
     SORUNDAPPA_HAS_LAST,
     SORUNDAPPA_LAST,
     SORUNDAPPA_HAS_HIGH,
     SORUNDAPPA_HIGH,
     SORUNDAPPA_HAS_LOW,
     SORUNDAPPA_LOW,
-    SORUNDAPPA_HAS_NET,
-    SORUNDAPPA_NET,
-    SORUNDAPPA_VOLUME,
-    SORUNDAPPA_COUNT,
-    SORUNDAPPA_AGREES,
+    SORUNDAPPA_HAS_NET, /* 0 where there is no last or the close is 0 */
+    SORUNDAPPA_NET,     /* last less close, an int64_t's bits */
+    SORUNDAPPA_VOLUME,  /* the sum of the sizes of the live lines */
+    SORUNDAPPA_COUNT,   /* how many live lines there are */
+    SORUNDAPPA_AGREES,  /* 1 if a J was taken and the latest one's high and low are the row's, an absent one counting as 0; otherwise 0 */
     SORUNDAPPA_HAS_REPORTED,
-    SORUNDAPPA_REPORTED,
-    SORUNDAPPA_FIGURES
+    SORUNDAPPA_REPORTED /* the consolidated volume that a taken T, X, C or J reported last */
 };
 
 /* Where each field stands in a record's bytes; numbers are big-endian, a field that the type lacks is zero. A trade is control 10,
@@ -79,45 +79,70 @@ enum sorundappa_field {
     SORUNDAPPA_CENTRE_AT = 6,
     SORUNDAPPA_SYMBOL_AT = 7,
     SORUNDAPPA_CLASS_AT = 15,
-    SORUNDAPPA_SALE_AT = 16, /* T's trade; the original that X and C name */
-    SORUNDAPPA_NEW_AT = 38,  /* what C puts in its place */
+    SORUNDAPPA_SALE_AT = 16, /* T's trade; in X and C what names the original */
+    SORUNDAPPA_NEW_AT = 38,  /* C's new trade */
     SORUNDAPPA_HIGH_AT = 60,
     SORUNDAPPA_LOW_AT = 64,
     SORUNDAPPA_CLOSE_AT = 68,
-    SORUNDAPPA_CONSOLIDATED_AT = 72,
-    SORUNDAPPA_RECORD = 80
+    SORUNDAPPA_CONSOLIDATED_AT = 72
 };
 
-/* What sorundappa_size tells, and the values that this header was written for. */
-enum sorundappa_which { SORUNDAPPA_SIZE_ROW, SORUNDAPPA_SIZE_ROWS, SORUNDAPPA_SIZE_LINE, SORUNDAPPA_SIZE_LINES, SORUNDAPPA_SIZE_MESSAGE, SORUNDAPPA_SIZE_RECORD };
-#define SORUNDAPPA_ROW_BYTES 30      /* of a row's cell */
+/* What sorundappa_size can be asked; below, in the same order, the values that this header was written for. */
+enum sorundappa_which {
+    SORUNDAPPA_SIZE_ROW,
+    SORUNDAPPA_SIZE_ROWS,
+    SORUNDAPPA_SIZE_LINE,
+    SORUNDAPPA_SIZE_LINES,
+    SORUNDAPPA_SIZE_MESSAGE,
+    SORUNDAPPA_SIZE_RECORD,
+    SORUNDAPPA_SIZE_COUNTERS,
+    SORUNDAPPA_SIZE_FIGURES,
+    SORUNDAPPA_SIZE_S,
+    SORUNDAPPA_SIZE_T,
+    SORUNDAPPA_SIZE_X,
+    SORUNDAPPA_SIZE_C,
+    SORUNDAPPA_SIZE_J
+};
+#define SORUNDAPPA_ROW_BYTES 30       /* of a row's cell */
 #define SORUNDAPPA_MOST_ROWS 256
-#define SORUNDAPPA_LINE_BYTES 40     /* of a line's cell */
+#define SORUNDAPPA_LINE_BYTES 40      /* of a line's cell */
 #define SORUNDAPPA_MOST_LINES 65536
 #define SORUNDAPPA_LONGEST_MESSAGE 67
+#define SORUNDAPPA_RECORD 80          /* bytes of a record */
+#define SORUNDAPPA_COUNTERS 5         /* words of a book's counters */
+#define SORUNDAPPA_FIGURES 15         /* words of a row */
+#define SORUNDAPPA_S_BYTES 6          /* of a message of type S, and so on */
+#define SORUNDAPPA_T_BYTES 45
+#define SORUNDAPPA_X_BYTES 45
+#define SORUNDAPPA_C_BYTES 67
+#define SORUNDAPPA_J_BYTES 34
 
 /* Makes the counters those of a fresh book. What stands in the rooms is not read until it is written. */
 void sorundappa_start(uint64_t counters[SORUNDAPPA_COUNTERS]);
 
-/* Lists a symbol with its close, 0 if unknown: 0, or 13 to 17 and nothing changed. */
+/* Lists a symbol with its adjusted previous close. A symbol is one or more bytes 33 to 126, then spaces to the end: one that is
+ * padded with NUL gets 13. A close is at most 2,000,000,000, and an unknown one is given as 0. Answers 0, and a row was added at the
+ * end, no J taken and nothing reported; or 13 to 17, and nothing changed. */
 uint8_t sorundappa_list(uint64_t counters[SORUNDAPPA_COUNTERS], uint8_t *rows, size_t rows_bytes, const uint8_t *lines,
                         size_t lines_bytes, const uint8_t symbol[8], uint32_t close);
 
-/* Delivers a message under its number: 0 and the message taken; 1, 2, 3 or 17 and nothing changed; 4 to 12 and the number used up. */
+/* Delivers a message under its number. Answers 0, and the message was taken; 1, 2, 3 or 17, and nothing changed; or 4 to 12, and the
+ * number was used up and nothing else changed. */
 uint8_t sorundappa_deliver(uint64_t counters[SORUNDAPPA_COUNTERS], uint8_t *rows, size_t rows_bytes, uint8_t *lines,
                            size_t lines_bytes, uint64_t number, const uint8_t *message, size_t message_bytes);
 
-/* Reads a symbol's row: 0; or 7 or 17 and every word 0. */
+/* Reads the row of a symbol, which is searched for byte for byte. Answers 0; or 7 or 17, and every word is 0. */
 uint8_t sorundappa_row(const uint64_t counters[SORUNDAPPA_COUNTERS], const uint8_t *rows, size_t rows_bytes, const uint8_t *lines,
                        size_t lines_bytes, const uint8_t symbol[8], uint64_t row[SORUNDAPPA_FIGURES]);
 
-/* Reads a message alone: 0; or 4 or 5 and every byte of the record 0. */
+/* Reads a message alone. Answers 0; or 4 or 5, and every byte of the record is 0. */
 uint8_t sorundappa_read(const uint8_t *message, size_t message_bytes, uint8_t record[SORUNDAPPA_RECORD]);
 
-/* Writes a record's message to the front of out: 0; or 5 or 18 and out as it was. */
+/* Writes a record's message to the front of out. Answers 0, and the bytes past the message stay as they were; or 5 or 18, and all of
+ * out stays as it was. Where both apply it is 5. */
 uint8_t sorundappa_write(const uint8_t record[SORUNDAPPA_RECORD], uint8_t *out, size_t out_bytes);
 
-/* One of the sizes above, as the linked library has it; 0 for any other which. */
+/* One of the thirteen sizes above, as the linked library has it; 0 for any other which. */
 uint64_t sorundappa_size(uint64_t which);
 
 #ifdef __cplusplus

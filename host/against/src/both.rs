@@ -15,6 +15,8 @@ pub struct Both {
     plain: Counters,
     plain_rows: Vec<u8>,
     plain_lines: Vec<u8>,
+    // How a run of bytes is lent.
+    lend: fn(&[u8], u8) -> Guarded<u8>,
     /// How many calls were made so far.
     pub calls: u64,
 }
@@ -55,13 +57,28 @@ fn strips(what: &str, whole: bool) -> Result<(), String> {
 impl Both {
     /// A book with the given counters, over rooms of the given contents.
     pub fn new(counters: Counters, rows: &[u8], lines: &[u8]) -> Both {
+        Both::lent(counters, rows, lines, Guarded::new)
+    }
+
+    /// The same, but a room or a message without bytes is lent as Rust's own empty slice.
+    pub fn bare(counters: Counters, rows: &[u8], lines: &[u8]) -> Both {
+        Both::lent(counters, rows, lines, Guarded::bare)
+    }
+
+    fn lent(
+        counters: Counters,
+        rows: &[u8],
+        lines: &[u8],
+        lend: fn(&[u8], u8) -> Guarded<u8>,
+    ) -> Both {
         Both {
             counters: Guarded::new(&words(&counters), 0xA5A5_A5A5_A5A5_A5A5),
-            rows: Guarded::new(rows, 0x5A),
-            lines: Guarded::new(lines, 0xC3),
+            rows: lend(rows, 0x5A),
+            lines: lend(lines, 0xC3),
             plain: counters,
             plain_rows: rows.to_vec(),
             plain_lines: lines.to_vec(),
+            lend,
             calls: 0,
         }
     }
@@ -110,7 +127,7 @@ impl Both {
 
     /// Delivers a message to both.
     pub fn deliver(&mut self, number: u64, message: &[u8]) -> Held {
-        let lent = Guarded::new(message, 0x54);
+        let lent = (self.lend)(message, 0x54);
         let told = raw::deliver(
             self.counters.array(),
             self.rows.lent(),
@@ -175,8 +192,8 @@ fn row_words(row: &plain::Row) -> [u64; 15] {
     ]
 }
 
-// A record as the bytes that cross, from plain's record.
-fn record_bytes(r: &plain::Record) -> [u8; 80] {
+/// A record as the bytes that cross, from plain's record.
+pub fn bytes_of(r: &plain::Record) -> [u8; 80] {
     let sale = |s: &plain::Sale| {
         [&s.control[..], &s.price.to_be_bytes(), &s.size.to_be_bytes(), &s.condition].concat()
     };
@@ -197,14 +214,53 @@ fn record_bytes(r: &plain::Record) -> [u8; 80] {
     all.try_into().expect("eighty bytes")
 }
 
+/// Plain's record of any eighty bytes: each of them is in a field.
+pub fn record_of(bytes: &[u8; 80]) -> plain::Record {
+    plain::Record {
+        letter: bytes[0],
+        time: u32::from_be_bytes(part(bytes, 1)),
+        event: bytes[5],
+        centre: bytes[6],
+        symbol: part(bytes, 7),
+        class: bytes[15],
+        sale: sale_at(bytes, 16),
+        new: sale_at(bytes, 38),
+        high: u32::from_be_bytes(part(bytes, 60)),
+        low: u32::from_be_bytes(part(bytes, 64)),
+        close: u32::from_be_bytes(part(bytes, 68)),
+        consolidated: u64::from_be_bytes(part(bytes, 72)),
+    }
+}
+
+fn sale_at(bytes: &[u8; 80], at: usize) -> plain::Sale {
+    plain::Sale {
+        control: part(bytes, at),
+        price: u32::from_be_bytes(part(bytes, at + 10)),
+        size: u32::from_be_bytes(part(bytes, at + 14)),
+        condition: part(bytes, at + 18),
+    }
+}
+
+fn part<const N: usize>(bytes: &[u8; 80], at: usize) -> [u8; N] {
+    bytes[at..at + N].try_into().expect("as many bytes as the field has")
+}
+
 /// Reads a message alone on both; the record, if there is one.
 pub fn read(message: &[u8]) -> Result<(u8, plain::Record), String> {
-    let lent = Guarded::new(message, 0x42);
+    read_lent(message, Guarded::new(message, 0x42))
+}
+
+/// Reads Rust's own empty slice on both.
+pub fn read_nothing() -> Held {
+    read_lent(&[], Guarded::bare(&[], 0x42)).map(|(told, _)| told)
+}
+
+fn read_lent(message: &[u8], lent: Guarded<u8>) -> Result<(u8, plain::Record), String> {
     let mut record = Guarded::new(&[0xEE; 80], 0x99);
     let told = raw::read(lent.seen(), record.array());
     let (answer, found) = plain::read(message);
     same("read: answer", told, answer.number())?;
-    first_difference("read: record", record.seen(), &record_bytes(&found))?;
+    first_difference("read: record", record.seen(), &bytes_of(&found))?;
     unmoved("read: message", message, &lent)?;
     strips("read: record", record.whole())?;
     Ok((told, found))
@@ -212,14 +268,36 @@ pub fn read(message: &[u8]) -> Result<(u8, plain::Record), String> {
 
 /// Writes a record on both, into spaces of the given contents.
 pub fn write(record: &plain::Record, space: &[u8]) -> Held {
-    let bytes = Guarded::new(&record_bytes(record), 0x66);
-    let mut out = Guarded::new(space, 0x77);
+    write_lent(record, space, Guarded::new(space, 0x77))
+}
+
+/// Writes a record on both, into Rust's own empty slice.
+pub fn write_nothing(record: &plain::Record) -> Held {
+    write_lent(record, &[], Guarded::bare(&[], 0x77))
+}
+
+fn write_lent(record: &plain::Record, space: &[u8], mut out: Guarded<u8>) -> Held {
+    let bytes = Guarded::new(&bytes_of(record), 0x66);
     let mut plain_out = space.to_vec();
     let told = raw::write(bytes.seen().try_into().expect("eighty bytes"), out.lent());
     let plain = plain::write(record, &mut plain_out);
     same("write: answer", told, plain.number())?;
     first_difference("write: space", out.seen(), &plain_out)?;
-    unmoved("write: record", &record_bytes(record), &bytes)?;
+    unmoved("write: record", &bytes_of(record), &bytes)?;
     strips("write: space", out.whole())?;
     Ok(told)
+}
+
+#[cfg(test)]
+mod tests {
+    use super::{bytes_of, record_of};
+
+    #[test]
+    fn every_byte_is_in_a_field() {
+        for at in 0..80 {
+            let mut bytes = [0; 80];
+            bytes[at] = 0xA7;
+            assert_eq!(bytes_of(&record_of(&bytes)), bytes, "byte {at}");
+        }
+    }
 }

@@ -1,7 +1,9 @@
 //! The linked library against `plain`, call by call and byte by byte: `cargo run --release -p against`, or with a seed behind `--`
-//! to have a run again. Every lent slice has a strip before and behind it that must stay as it was.
+//! to have a run again. Every lent slice has a strip before and behind it that must stay as it was; but for Rust's own empty ones.
 mod both;
+mod edges;
 mod guard;
+mod records;
 mod runs;
 mod tally;
 
@@ -10,11 +12,11 @@ use std::process::ExitCode;
 use std::time::{SystemTime, UNIX_EPOCH};
 use tally::Tally;
 
-const AT_LEAST: u64 = 200_000;
+const AT_LEAST: u64 = 350_000;
 
 type Kind = (&'static str, fn(&mut Dice, &mut Tally) -> Result<(), String>);
 
-const KINDS: [Kind; 10] = [
+const KINDS: [Kind; 12] = [
     ("sound days", runs::sound_days),
     ("lost, repeated and late copies", runs::bad_lines),
     ("a damaged byte at every offset", runs::damaged_bytes),
@@ -23,8 +25,10 @@ const KINDS: [Kind; 10] = [
     ("rooms of up to two cells and a byte", runs::small_rooms),
     ("rooms of other contents", runs::other_contents),
     ("numbers at every bound", runs::numbers),
-    ("records written", runs::records),
-    ("books at their caps", runs::full_books),
+    ("records written", records::written),
+    ("books at their caps", edges::full_books),
+    ("rooms and counters about the cap on rows", edges::full_sheets),
+    ("nothing lent", edges::nothing_lent),
 ];
 
 // The seed that was asked for, or one of the clock's.

@@ -5,20 +5,21 @@ use chance::{
     arrivals, contents, cut, day, flip, odd_counters, reach, retype, sound_counters, Counts, Day,
     Dice, Kind, Maker, Trouble, LINE, ROW, SYMBOLS,
 };
-use plain::{Counters, Record};
+use plain::Counters;
 
-type Run = Result<(), String>;
+/// What a run comes to: nothing, or a difference in words.
+pub type Run = Result<(), String>;
 
-fn counters(c: Counts) -> Counters {
+pub fn counters(c: Counts) -> Counters {
     Counters { wanted: c.wanted, phase: c.phase, rows: c.rows, lines: c.lines, taken: c.taken }
 }
 
-fn rows_room(dice: &mut Dice, length: usize) -> Vec<u8> {
+pub fn rows_room(dice: &mut Dice, length: usize) -> Vec<u8> {
     let kind = dice.pick(&[Kind::Zeros, Kind::Random, Kind::Rows, Kind::Rows]);
     contents(dice, kind, length)
 }
 
-fn lines_room(dice: &mut Dice, length: usize) -> Vec<u8> {
+pub fn lines_room(dice: &mut Dice, length: usize) -> Vec<u8> {
     let kind = dice.pick(&[Kind::Zeros, Kind::Random, Kind::Lines, Kind::Lines]);
     contents(dice, kind, length)
 }
@@ -113,7 +114,7 @@ pub fn damaged_bytes(dice: &mut Dice, tally: &mut Tally) -> Run {
 }
 
 // Some lawful message of a type, and its length.
-fn lawful(dice: &mut Dice, letter: u8) -> (Vec<u8>, usize) {
+pub fn lawful(dice: &mut Dice, letter: u8) -> (Vec<u8>, usize) {
     let maker = Maker::new(12);
     loop {
         let message = maker.some_message(dice);
@@ -161,7 +162,7 @@ fn one_each(dice: &mut Dice, tally: &mut Tally, c: Counters, rows: &[u8], lines:
 }
 
 // Mostly a symbol that stands in the room or in the pool.
-fn some_symbol(dice: &mut Dice, rows: &[u8], c: Counters) -> [u8; 8] {
+pub fn some_symbol(dice: &mut Dice, rows: &[u8], c: Counters) -> [u8; 8] {
     let at = dice.index(c.rows.clamp(1, 8) as usize) * ROW;
     match rows.get(at..at + 8) {
         Some(symbol) if dice.chance(2) => symbol.try_into().expect("eight bytes"),
@@ -171,7 +172,7 @@ fn some_symbol(dice: &mut Dice, rows: &[u8], c: Counters) -> [u8; 8] {
 }
 
 // Mostly the wanted number; otherwise one at a bound.
-fn some_number(dice: &mut Dice, wanted: u64) -> u64 {
+pub fn some_number(dice: &mut Dice, wanted: u64) -> u64 {
     let beside = [
         wanted.wrapping_sub(1),
         wanted.wrapping_add(1),
@@ -189,7 +190,7 @@ fn some_number(dice: &mut Dice, wanted: u64) -> u64 {
 }
 
 // A lawful message, often one that names a line of the room rightly or all but rightly.
-fn near_line(dice: &mut Dice, lines: &[u8]) -> Vec<u8> {
+pub fn near_line(dice: &mut Dice, lines: &[u8]) -> Vec<u8> {
     let letter = dice.pick(b"STTXXXCCCJ");
     let (mut message, _) = lawful(dice, letter);
     let cells = lines.len() / LINE;
@@ -256,75 +257,6 @@ pub fn numbers(dice: &mut Dice, tally: &mut Tally) -> Run {
                 tally.count(Both::new(c, &rows, &lines).deliver(number, &message))?;
             }
         }
-    }
-    Ok(())
-}
-
-/// Records that keep the rules, break one, or are any bytes, into spaces of every length.
-pub fn records(dice: &mut Dice, tally: &mut Tally) -> Run {
-    for length in 0..=70 {
-        for letter in *b"STXCJ" {
-            for _ in 0..20 {
-                let (message, _) = lawful(dice, letter);
-                let (_, record) = read(&message)?;
-                let record = if dice.chance(2) { record } else { one_field_off(dice, record) };
-                tally.count(write(&record, &dice.bytes(length)))?;
-            }
-        }
-    }
-    Ok(())
-}
-
-// One field of a record, its letter among them, given some other value.
-fn one_field_off(dice: &mut Dice, mut r: Record) -> Record {
-    let value = dice.roll();
-    match dice.index(18) {
-        0 => r.letter = value as u8,
-        1 => r.time = dice.pick(&[86_399_999, 86_400_000, u32::MAX]),
-        2 => r.event = value as u8,
-        3 => r.centre = value as u8,
-        4 => r.symbol[dice.index(8)] = value as u8,
-        5 => r.class = value as u8,
-        6 => r.sale.control[dice.index(10)] = value as u8,
-        7 => r.sale.price = some_price(dice),
-        8 => r.sale.size = dice.pick(&[0, 1, u32::MAX]),
-        9 => r.sale.condition[dice.index(4)] = value as u8,
-        10 => r.new.control[dice.index(10)] = value as u8,
-        11 => r.new.price = some_price(dice),
-        12 => r.new.size = dice.pick(&[0, 1, u32::MAX]),
-        13 => r.new.condition[dice.index(4)] = value as u8,
-        14 => r.high = some_price(dice),
-        15 => r.low = some_price(dice),
-        16 => r.close = some_price(dice),
-        _ => r.consolidated = value,
-    }
-    r
-}
-
-fn some_price(dice: &mut Dice) -> u32 {
-    dice.pick(&[0, 1, 2_000_000_000, 2_000_000_001, u32::MAX])
-}
-
-/// Books at their caps, with more room than the caps allow: 256 rows and 65,536 lines.
-pub fn full_books(dice: &mut Dice, tally: &mut Tally) -> Run {
-    let mut sheet = Both::fresh(&dice.bytes(260 * ROW), &[])?;
-    for i in 0..260 {
-        tally
-            .count(sheet.list(format!("R{i:<7}").as_bytes().try_into().expect("eight bytes"), i))?;
-    }
-    let rows = contents(dice, Kind::Rows, 2 * ROW);
-    let lines = contents(dice, Kind::Lines, 65_538 * LINE);
-    let symbol: [u8; 8] = rows[..8].try_into().expect("eight bytes");
-    for used in [65_534, 65_535, 65_536, 65_537] {
-        let c = Counters { wanted: 9, phase: 2, rows: 1, lines: used, taken: 3 };
-        let mut book = Both::new(c, &rows, &lines);
-        for i in 0..4 {
-            let (mut trade, _) = lawful(dice, b'T');
-            trade[6..14].copy_from_slice(&symbol);
-            trade[15..25].copy_from_slice(format!("NEW{i:<7}").as_bytes());
-            tally.count(book.deliver(book.counters().wanted, &trade))?;
-        }
-        tally.count(book.row(symbol))?;
     }
     Ok(())
 }

@@ -22,18 +22,24 @@ fn best(
     (least.0 as f64 / pieces as f64, least.1 as f64 / pieces as f64)
 }
 
-fn messages_alone() {
+// A line for each type: the proved side's work, the plain side's.
+fn each_type(what: &str, one: fn(&[u8], usize) -> u64, other: fn(&[u8], usize) -> u64) {
     const TIMES: usize = 200_000;
     for (letter, bytes) in day::samples() {
-        let (proved, plain) =
-            best(15, TIMES, || Proved::reads(&bytes, TIMES), || Plain::reads(&bytes, TIMES));
-        compare(&format!("read {letter}"), proved, plain);
+        let (proved, plain) = best(15, TIMES, || one(&bytes, TIMES), || other(&bytes, TIMES));
+        compare(&format!("{what} {letter}"), proved, plain);
     }
-    for (letter, bytes) in day::samples() {
-        let (proved, plain) =
-            best(15, TIMES, || Proved::writes(&bytes, TIMES), || Plain::writes(&bytes, TIMES));
-        compare(&format!("write {letter}"), proved, plain);
-    }
+}
+
+fn messages_alone() {
+    each_type("read", Proved::reads, Plain::reads);
+    each_type("write", Proved::writes, Plain::writes);
+}
+
+fn through_wrapper() {
+    println!("\nthrough the wrapper, which makes a Record of the eighty bytes and eighty bytes of a Record:");
+    each_type("read", Proved::wrapped_reads, Plain::reads);
+    each_type("write", Proved::wrapped_writes, Plain::writes);
 }
 
 fn whole_day() {
@@ -70,4 +76,5 @@ fn main() {
     line("", "proved ns", "plain ns", "ratio");
     messages_alone();
     whole_day();
+    through_wrapper();
 }

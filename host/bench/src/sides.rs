@@ -36,6 +36,28 @@ pub struct Plain {
     lines: Vec<u8>,
 }
 
+impl Proved {
+    /// As `reads`, through the wrapper, which makes a `Record` of the eighty bytes.
+    pub fn wrapped_reads(message: &[u8], times: usize) -> u64 {
+        timed(|| {
+            for _ in 0..times {
+                let _ = black_box(sorundappa::Record::read(black_box(message)));
+            }
+        })
+    }
+
+    /// As `writes`, through the wrapper, which makes eighty bytes of a `Record`.
+    pub fn wrapped_writes(message: &[u8], times: usize) -> u64 {
+        let record = sorundappa::Record::read(message).expect("a lawful message");
+        let mut out = [0; 67];
+        timed(|| {
+            for _ in 0..times {
+                let _ = black_box(black_box(&record).write(black_box(&mut out)));
+            }
+        })
+    }
+}
+
 impl Side for Proved {
     fn new(rows: usize, lines: usize) -> Proved {
         Proved { counters: [0; 5], rows: vec![0; rows * 30], lines: vec![0; lines * 40] }
@@ -44,17 +66,20 @@ impl Side for Proved {
     fn reads(message: &[u8], times: usize) -> u64 {
         timed(|| {
             for _ in 0..times {
-                let _ = black_box(sorundappa::Record::read(black_box(message)));
+                let mut record = [0; 80];
+                let told = sorundappa::raw::read(black_box(message), &mut record);
+                black_box((told, &record));
             }
         })
     }
 
     fn writes(message: &[u8], times: usize) -> u64 {
-        let record = sorundappa::Record::read(message).expect("a lawful message");
+        let mut record = [0; 80];
+        assert_eq!(sorundappa::raw::read(message, &mut record), 0, "a lawful message");
         let mut out = [0; 67];
         timed(|| {
             for _ in 0..times {
-                let _ = black_box(black_box(&record).write(black_box(&mut out)));
+                black_box(sorundappa::raw::write(black_box(&record), black_box(&mut out)));
             }
         })
     }

@@ -1,4 +1,5 @@
-//! The cells that the lent bytes are cut into: 30 bytes for a row, 40 for a line.
+//! The cells that the lent bytes are cut into: 30 bytes for a row, 40 for a line. Document 01 leaves their layout and the marks' values
+//! open; both are the proved book's, so that the rooms of the two can be compared byte by byte.
 
 use crate::message::{field, put, Sale};
 

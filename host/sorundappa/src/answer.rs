@@ -34,8 +34,8 @@ answers! {
     NotDue = 6 "the event or message is not due in this phase";
     NotListed = 7 "the symbol is not listed";
     NoLine = 8 "no line bears the original's key";
-    LineDead = 9 "the original was cancelled or corrected already";
-    LineDiffers = 10 "symbol, price, size or condition differs from the original";
+    LineDead = 9 "the original's line is dead";
+    LineDiffers = 10 "symbol, price, size or condition differs from the original's line";
     KeyUsed = 11 "the new key is on a line already";
     LinesFull = 12 "every line is used";
     ListingBroken = 13 "the listing's symbol or close breaks its rule";
@@ -58,7 +58,7 @@ impl Answer {
     }
 }
 
-/// The words, behind the number: `9: the original was cancelled or corrected already`.
+/// The words, behind the number: `9: the original's line is dead`.
 impl fmt::Display for Answer {
     fn fmt(&self, f: &mut fmt::Formatter) -> fmt::Result {
         write!(f, "{}: {}", self.number(), self.words())

@@ -2,7 +2,7 @@
 use crate::answer::{DeliverError, ListError, RowError};
 use crate::raw;
 
-/// A row as the wall shows it. Prices are in ten-thousandths.
+/// A row as it reads. Prices are in ten-thousandths; last, high, low, volume and count are over live lines only.
 #[derive(Clone, Copy, Debug, Default, PartialEq, Eq)]
 pub struct Row {
     pub symbol: [u8; 8],
@@ -17,9 +17,9 @@ pub struct Row {
     pub volume: u64,
     /// How many trades are still live.
     pub count: u64,
-    /// Whether a summary was taken and says this row's high and low.
+    /// Whether a J was taken and the latest one's high and low are this row's, an absent one counting as 0.
     pub agrees: bool,
-    /// The consolidated volume that was reported last.
+    /// The consolidated volume that a taken T, X, C or J reported last.
     pub reported: Option<u64>,
 }
 
@@ -128,17 +128,29 @@ impl<'room> Book<'room> {
         Book { counters: counters.words(), rows, lines }
     }
 
-    /// Lists a symbol with its close, before any number is used.
+    /// Lists a symbol with its adjusted previous close, before any number is used. A symbol is one or more bytes 33 to 126, then
+    /// spaces to the end; a close is at most 2,000,000,000, and an unknown one is given as 0. The row is added at the end, no J
+    /// taken and nothing reported.
+    ///
+    /// ```
+    /// use sorundappa::{room_for_rows, Book, ListError, Row};
+    /// let mut rows = [0; room_for_rows(1)];
+    /// let mut book = Book::start(&mut rows, &mut []);
+    /// assert_eq!(book.list(*b"ABCD\0\0\0\0", 250_000), Err(ListError::ListingBroken));
+    /// assert_eq!(book.list(*b"ABCD    ", 2_000_000_001), Err(ListError::ListingBroken));
+    /// assert_eq!(book.list(*b"ABCD    ", 0), Ok(()));
+    /// assert_eq!(book.row(*b"ABCD    "), Ok(Row { symbol: *b"ABCD    ", ..Row::default() }));
+    /// ```
     pub fn list(&mut self, symbol: [u8; 8], close: u32) -> Result<(), ListError> {
         ListError::told(raw::list(&mut self.counters, self.rows, self.lines, &symbol, close))
     }
 
-    /// Delivers a message under its number.
+    /// Delivers a message under its number. Whether a refusal used up the number, [`DeliverError::used_up`] says.
     pub fn deliver(&mut self, number: u64, message: &[u8]) -> Result<(), DeliverError> {
         DeliverError::told(raw::deliver(&mut self.counters, self.rows, self.lines, number, message))
     }
 
-    /// Reads the row of a symbol.
+    /// Reads the row of a symbol, which is searched for byte for byte.
     pub fn row(&self, symbol: [u8; 8]) -> Result<Row, RowError> {
         let mut figures = [0; 15];
         RowError::told(raw::row(&self.counters, self.rows, self.lines, &symbol, &mut figures))

@@ -1,5 +1,6 @@
 //! The library as it is linked: words and bytes, and the numbers of the answer table. Safe all the same: the library reads and
-//! writes only what it is lent, and asks nothing of its caller (`docs/PROMISES.md`).
+//! writes only what it is lent, whatever that is (`docs/PROMISES.md`), and what it demands of a pointer holds of every reference:
+//! good for its length, never null, and what is written overlaps nothing else. That these declarations are the library's own is tested.
 
 /// A book's counters: wanted number, phase, rows used, lines used, messages taken.
 pub type Counters = [u64; 5];
@@ -10,7 +11,7 @@ pub type Figures = [u64; 15];
 /// A record's bytes, every field of every type at an offset of its own.
 pub type RecordBytes = [u8; 80];
 
-/// What [`size`] can be asked.
+/// What [`size`] can be asked. The last seven: words of [`Counters`] and of [`Figures`], and the bytes of a message of each type.
 #[derive(Clone, Copy, Debug, PartialEq, Eq)]
 #[repr(u64)]
 pub enum Size {
@@ -20,6 +21,13 @@ pub enum Size {
     MostLines = 3,
     LongestMessage = 4,
     Record = 5,
+    Counters = 6,
+    Figures = 7,
+    MessageS = 8,
+    MessageT = 9,
+    MessageX = 10,
+    MessageC = 11,
+    MessageJ = 12,
 }
 
 mod linked {
@@ -66,7 +74,7 @@ pub fn start(counters: &mut Counters) {
     unsafe { linked::sorundappa_start(counters.as_mut_ptr()) }
 }
 
-/// Lists a symbol with its close: 0, or 13 to 17.
+/// Lists a symbol with its close: 0, and a row was added; or 13 to 17, and nothing changed.
 pub fn list(
     counters: &mut Counters,
     rows: &mut [u8],
@@ -88,7 +96,8 @@ pub fn list(
     }
 }
 
-/// Delivers a message under its number: 0 to 12, or 17.
+/// Delivers a message under its number: 0, and it was taken; 1, 2, 3 or 17, and nothing changed; or 4 to 12, and the number was used
+/// up.
 pub fn deliver(
     counters: &mut Counters,
     rows: &mut [u8],
@@ -111,7 +120,7 @@ pub fn deliver(
     }
 }
 
-/// Reads the row of a symbol: 0, 7 or 17.
+/// Reads the row of a symbol: 0; or 7 or 17, and every word is 0.
 pub fn row(
     counters: &Counters,
     rows: &[u8],
@@ -133,13 +142,13 @@ pub fn row(
     }
 }
 
-/// Reads a message alone: 0, 4 or 5.
+/// Reads a message alone: 0; or 4 or 5, and every byte of the record is 0.
 pub fn read(message: &[u8], record: &mut RecordBytes) -> u8 {
     // SAFETY: as for `list`.
     unsafe { linked::sorundappa_read(message.as_ptr(), message.len(), record.as_mut_ptr()) }
 }
 
-/// Writes a record's message to the front of `out`: 0, 5 or 18.
+/// Writes a record's message to the front of `out`: 0, and the bytes past it stay; or 5, or else 18, and all of `out` stays.
 pub fn write(record: &RecordBytes, out: &mut [u8]) -> u8 {
     // SAFETY: as for `list`.
     unsafe { linked::sorundappa_write(record.as_ptr(), out.as_mut_ptr(), out.len()) }

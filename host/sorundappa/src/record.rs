@@ -23,9 +23,9 @@ pub struct Record {
     pub centre: u8,
     pub symbol: [u8; 8],
     pub class: u8,
-    /// T's trade; the original that X and C name.
+    /// T's trade; in X and C what names the original.
     pub sale: Sale,
-    /// What C puts in the original's place.
+    /// C's new trade.
     pub new: Sale,
     pub high: u32,
     pub low: u32,

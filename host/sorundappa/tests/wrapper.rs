@@ -170,6 +170,49 @@ fn records_there_and_back() {
     assert_eq!(out, [3; 66]);
 }
 
+// Each byte of the eighty has a field of its own, and each field the bytes that the library gives it.
+#[test]
+fn every_field_from_its_own_bytes() {
+    let event = Record { letter: b'S', time: 0x0102_0304, event: b'M', ..Record::default() };
+    assert_eq!(Record::read(b"\x01\x02\x03\x04SM"), Ok(event));
+    let summary = Record {
+        letter: b'J',
+        time: 0x0102_0304,
+        symbol: ABCD,
+        class: b'N',
+        high: 0x3132_3334,
+        low: 0x4142_4344,
+        close: 0x5152_5354,
+        consolidated: 0x6162_6364_6566_6768,
+        ..Record::default()
+    };
+    let message = b"\x01\x02\x03\x04JABCD    N1234ABCDQRSTabcdefgh";
+    assert_eq!(Record::read(message), Ok(summary));
+    assert_eq!(written(summary), message);
+    for at in 0..80 {
+        let mut bytes = [0; 80];
+        bytes[at] = 0xA7;
+        assert_eq!(Record::of(&bytes).bytes(), bytes, "byte {at}");
+    }
+}
+
+#[test]
+fn figures_that_are_absent() {
+    let (mut rows, mut lines) = (vec![0; room_for_rows(1)], vec![0; room_for_lines(1)]);
+    let mut book = Book::start(&mut rows, &mut lines);
+    book.list(ABCD, 250_000).unwrap();
+    let listed = Row { symbol: ABCD, close: 250_000, ..Row::default() };
+    assert_eq!(book.row(ABCD), Ok(listed));
+    book.deliver(1, &day_w()[0]).unwrap();
+    let nothing = Record { letter: b'J', symbol: ABCD, class: b'Q', ..Record::default() };
+    book.deliver(2, &written(nothing)).unwrap();
+    assert_eq!(book.row(ABCD), Ok(Row { agrees: true, reported: Some(0), ..listed }));
+    // `4` sets high and low only
+    book.deliver(3, &written(trade(b'T', 0, b'B', sale("1", 7, 9, b"@4  "), 5))).unwrap();
+    let row = Row { high: Some(7), low: Some(7), volume: 9, count: 1, reported: Some(5), ..listed };
+    assert_eq!(book.row(ABCD), Ok(row));
+}
+
 #[test]
 fn sizes_are_those_of_the_linked_library() {
     assert_eq!(raw::size(Size::RowBytes), room_for_rows(1) as u64);
@@ -180,6 +223,33 @@ fn sizes_are_those_of_the_linked_library() {
 }
 
 #[test]
+fn words_are_those_of_the_linked_library() {
+    assert_eq!(raw::size(Size::Counters), raw::Counters::default().len() as u64);
+    assert_eq!(raw::size(Size::Figures), raw::Figures::default().len() as u64);
+}
+
+// What `write` says of a message's length is what the library stores and what it tells.
+#[test]
+fn lengths_are_those_of_the_linked_library() {
+    let sale = sale("1", 1, 1, b"@   ");
+    let traded = trade(b'T', 0, b'Q', sale, 0);
+    let event = Record { letter: b'S', event: b'O', ..Record::default() };
+    let summary = Record { letter: b'J', symbol: ABCD, class: b'Q', ..Record::default() };
+    for (record, size) in [
+        (event, Size::MessageS),
+        (traded, Size::MessageT),
+        (Record { letter: b'X', ..traded }, Size::MessageX),
+        (Record { letter: b'C', new: sale, ..traded }, Size::MessageC),
+        (summary, Size::MessageJ),
+    ] {
+        let length = written(record).len();
+        assert_eq!(Record::read(&written(record)), Ok(record));
+        assert_eq!(raw::size(size), length as u64, "{size:?}");
+        assert_eq!(record.write(&mut vec![0; length - 1]), Err(WriteError::NoSpace));
+    }
+}
+
+#[test]
 fn answers_in_words() {
     for (number, answer) in (0..).zip(Answer::ALL) {
         assert_eq!(answer.number(), number);
@@ -187,9 +257,10 @@ fn answers_in_words() {
         assert!(answer.to_string().starts_with(&format!("{number}: ")));
     }
     assert_eq!(Answer::of(19), None);
+    assert_eq!(DeliverError::LineDead.to_string(), "9: the original's line is dead");
     assert_eq!(
-        DeliverError::LineDead.to_string(),
-        "9: the original was cancelled or corrected already"
+        DeliverError::LineDiffers.to_string(),
+        "10: symbol, price, size or condition differs from the original's line"
     );
     assert_eq!(Answer::from(ListError::RowsFull), Answer::RowsFull);
     assert!(DeliverError::NoType.used_up() && DeliverError::LinesFull.used_up());
