@@ -8,5 +8,3 @@ pub mod Once
 pub mod Wall
 pub mod Demand3
 pub mod Runs
-pub mod PDays
-pub mod Premises

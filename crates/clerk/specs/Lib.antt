@@ -2,5 +2,3 @@ pub mod Steps
 pub mod Clerk
 pub mod Arrivals
 pub mod Claims
-pub mod Days
-pub mod Premises

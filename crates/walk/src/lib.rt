@@ -12,9 +12,9 @@ ghost use mathlib.Core.Bool.{cond, _&&_};
 ghost use Prim.Native.Nat.{_+_, _*_, _≤_, _<_, _^_};
 ghost use lib.Dec.{eqb};
 ghost use lib.ListN.{length, getD};
-ghost use Rattle.octets.specs.Number.{be};
 ghost use Rattle.octets.specs.Run.{part};
 ghost use Rattle.lines.specs.Lines.{lineFrom, usedLines};
+ghost use Rattle.walk.specs.Low.{low};
 ghost use Rattle.walk.specs.Figures.{raise, lower, later, sold, dealt, figuresOf};
 
 pub enum Price {
@@ -99,19 +99,19 @@ fn with_sale(t: Figures, price: u32, size: u32, place: u32, marks: Marks) -> Fig
     }
 }
 
-// The number of the eight bytes from a place on.
+// The number of the eight bytes from a place on, the first the lowest.
 fn eight(s: &[u8], at: usize) -> u64
     requires { ⌜ at + 8 ≤ length (now s) ⌝ }
-    ensures { λ r. ⌜ r ≡ be (part (now (s .entry)) at 8) ⌝ }
+    ensures { λ r. ⌜ r ≡ low (part (now (s .entry)) at 8) ⌝ }
 {
-    numbers::weigh(s[at], s[at + 1], s[at + 2], s[at + 3]) * 4294967296
-        + numbers::weigh(s[at + 4], s[at + 5], s[at + 6], s[at + 7])
+    numbers::weigh(s[at + 7], s[at + 6], s[at + 5], s[at + 4]) * 4294967296
+        + numbers::weigh(s[at + 3], s[at + 2], s[at + 1], s[at])
 }
 
 // Whether the line whose cell starts at an offset is live and of the symbol, which is given as the number of its eight bytes.
 fn is_counted(lines: &[u8], at: usize, symbol: u64) -> bool
     requires { ⌜ at + 40 ≤ length (now lines) ⌝ }
-    ensures { λ r. ⌜ r ≡ (eqb (getD (now (lines .entry)) (at + 39) 0) 1 && eqb (be (part (now (lines .entry)) (at + 11) 8)) symbol) ⌝ }
+    ensures { λ r. ⌜ r ≡ (eqb (getD (now (lines .entry)) (at + 39) 0) 1 && eqb (low (part (now (lines .entry)) (at + 11) 8)) symbol) ⌝ }
 {
     if lines[at + LIVE] != 1 {
         return false;
@@ -138,8 +138,8 @@ fn with_line(t: Figures, lines: &[u8], at: usize) -> Figures
 pub fn walk(lines: &[u8], used: usize, symbol: [u8; 8]) -> Figures
     ensures { λ r. ⌜ r ≡ figuresOf symbol (usedLines (now (lines .entry)) used) ⌝ }
 {
-    let limit = lines::limit(lines.len());
-    let name = numbers::number8(&symbol, 0);
+    let n = numbers::lesser(used, lines::limit(lines.len()));
+    let name = eight(&symbol, 0);
     let mut t = Figures {
         volume: 0,
         count: 0,
@@ -148,10 +148,7 @@ pub fn walk(lines: &[u8], used: usize, symbol: [u8; 8]) -> Figures
         last: Last::NoLast,
     };
     let mut i: usize = 0;
-    while i < used {
-        if limit <= i {
-            return t;
-        }
+    while i < n {
         if is_counted(lines, i * CELL, name) {
             t = with_line(t, lines, i * CELL);
             i += 1;

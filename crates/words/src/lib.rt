@@ -1,5 +1,5 @@
 // Counters and a row as words of 64 bits, as a program of another language passes them. Which word is which is said in
-// `specs/Words.antt` and nowhere else.
+// `specs/Words.antt`; the numbers here are held to it.
 use book::counters::Counters;
 use numbers::number8;
 use rows::Reported;

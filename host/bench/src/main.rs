@@ -26,7 +26,7 @@ fn best(
 fn each_type(what: &str, one: fn(&[u8], usize) -> u64, other: fn(&[u8], usize) -> u64) {
     const TIMES: usize = 200_000;
     for (letter, bytes) in day::samples() {
-        let (proved, plain) = best(15, TIMES, || one(&bytes, TIMES), || other(&bytes, TIMES));
+        let (proved, plain) = best(40, TIMES, || one(&bytes, TIMES), || other(&bytes, TIMES));
         compare(&format!("{what} {letter}"), proved, plain);
     }
 }
@@ -48,7 +48,7 @@ fn whole_day() {
     let (mut proved, mut plain) = (Proved::new(256, 65_536), Plain::new(256, 65_536));
     let (a, b) = best(3, messages.len(), || proved.day(&messages), || plain.day(&messages));
     compare("a message of the day", a, b);
-    let (a, b) = best(9, 256, || proved.wall(), || plain.wall());
+    let (a, b) = best(30, 256, || proved.wall(), || plain.wall());
     compare("a row of a wall of 256", a, b);
     assert!(proved.same_as(&plain), "the two books differ after the day");
 }

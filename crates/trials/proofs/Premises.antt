@@ -11,12 +11,12 @@ use lib.ListN.{length}
 use Rattle.book.specs.declared.counters.Counters.{Counters}
 use Rattle.book.proofs.Sound.{sound-gives}
 use Rattle.rows.specs.Rows.{rowLimit}
 use Rattle.clerk.specs.Clerk.{Listing, sheetOf}
 use Rattle.clerk.specs.Arrivals.{run, Largest, Arrival, numbers}
-use Rattle.clerk.specs.Premises.{Breaks, begun}
+use Rattle.trials.specs.Premises.{Breaks, begun}
 use Rattle.clerk.proofs.InOrder.{got, got-at, largest-got}
 use Rattle.clerk.proofs.Sim.{listedBook}
 use Rattle.clerk.proofs.Demand3.{Day, sheet-stands, delivers-are}
 
 got-run : (w n : ℕ) → got w (run w n) ≡ n
 unfolding got run

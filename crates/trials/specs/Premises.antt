@@ -10,11 +10,11 @@ use Rattle.lines.specs.Lines.{lineLimit}
 use Rattle.rows.specs.Rows.{rowLimit}
 use Rattle.book.specs.Counting.{freshCounters, usedUp}
 use Rattle.book.specs.Calls.{listSaid, deliverSaid}
 use Rattle.clerk.specs.Steps.{Book}
 use Rattle.clerk.specs.Clerk as Clerk
 use Rattle.clerk.specs.Clerk.{sheetOf, clerkBook}
 use Rattle.clerk.specs.Arrivals.{Largest, upto}
-use Rattle.clerk.specs.Days.{abcd, q1, event, trade, cancel, dayOf, alone, rowsRoom, linesRoom, Kept, opened, given, keptAfter, clerkShows}
+use Rattle.trials.specs.Days.{abcd, q1, event, trade, cancel, dayOf, alone, rowsRoom, linesRoom, Kept, opened, given, keptAfter, clerkShows}
 
 abbrev pub day : ℕ → List ℕ
 day = dayOf (event 1 79 ∷ trade 2 81 q1 100 ∷ cancel 3 81 q1 200 ∷ [])

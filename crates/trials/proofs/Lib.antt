@@ -1,0 +1,2 @@
+pub mod PDays
+pub mod Premises
