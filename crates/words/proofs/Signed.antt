@@ -9,7 +9,7 @@ use lib.Signed.{mag, ltZ}
 use Rattle.decimal.proofs.Signed.{held, left, held-is, size-held, not-below, not-above}
 use Rattle.words.specs.Words.{signedWord}
 
--- a number below zero lies as far below 2^64 as its word says, and no number from zero on has that word
+-- below zero a number's size and its word make 2^64, and the word is none of a number from zero on
 pub below-zero : (n : ℕ) → n < 2 ^ 63 → (signedWord (negsuc n) + (n + 1) ≡ 2 ^ 64) × (2 ^ 63 ≤ signedWord (negsuc n))
 below-zero n h = (omega arith, omega arith)
 
