@@ -34,9 +34,9 @@ use Rattle.rows.proofs.Slabs.{used-rows-length, row-in, row-length, row-touches
 use Rattle.walk.proofs.Meaning.{figures-are, volume-fits}
 use Rattle.book.specs.declared.counters.Counters.{Counters}
 use Rattle.book.specs.Counting.{usedUp, sound, Unsound}
-use Rattle.table.specs.Messages.{isEvent, isTrade, isCancel, isCorrection, isSummary, namesOld, makesNew, oldKey}
+use Rattle.keys.specs.Messages.{isEvent, isTrade, isCancel, isCorrection, isSummary, namesOld, makesNew, oldKey}
 use Rattle.table.specs.Table.{symbolsOf, isFound, listed, says, Case, lowest, inBook, numberTable, contentTable, listTable, rowTable}
-use Rattle.table.specs.Taking.{madeLine, correctedLine, linesBy, rowsBy, indexOf}
+use Rattle.take.specs.Taking.{madeLine, correctedLine, linesBy, rowsBy, indexOf}
 use Rattle.show.specs.Showing.{shownOf, nothingShown}
 use Rattle.book.specs.Calls.{listAnswer, listSaid, listRows, deliverAnswer, deliverSaid, deliverRows, deliverLines, rowAnswer, rowShown}
 use Rattle.table.proofs.Tables.{listed-found, Wanted, number-content, number-refused, number-taken}

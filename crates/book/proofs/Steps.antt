@@ -24,11 +24,11 @@ use Rattle.book.specs.declared.Said.{Said}
 use Rattle.book.specs.declared.Located.{Located}
 use Rattle.book.specs.declared.Shown.{Shown}
 use Rattle.show.specs.declared.RowShown.{RowShown}
-use Rattle.table.specs.declared.judge.Verdict.{Verdict}
+use Rattle.table.specs.declared.Verdict.{Verdict}
 use Rattle.book.specs.Counting.{usedUp, oneRowMore, takenBy, sound}
-use Rattle.table.specs.Messages.{isEvent, isCancel, isCorrection, namesOld, oldKey}
+use Rattle.keys.specs.Messages.{isEvent, isCancel, isCorrection, namesOld, oldKey}
 use Rattle.table.specs.Table.{Case, symbolsOf, inBook, isFound, listed, listTable}
-use Rattle.table.specs.Taking.{linesBy, rowsBy, indexOf}
+use Rattle.take.specs.Taking.{linesBy, rowsBy, indexOf}
 use Rattle.show.specs.Showing.{shownOf, nothingShown}
 use Rattle.book.specs.Calls.{numberAnswer, located, listAnswer, listSaid, listRows, deliverAnswer, deliverSaid, deliverRows, deliverLines, rowAnswer, rowShown}
 use Rattle.table.specs.Working.{judgedBy}

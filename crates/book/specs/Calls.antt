@@ -16,9 +16,9 @@ use Rattle.book.specs.declared.Said.{Said}
 use Rattle.book.specs.declared.Located.{Located}
 use Rattle.book.specs.declared.Shown.{Shown}
 use Rattle.book.specs.Counting.{usedUp, oneRowMore, takenBy, sound}
-use Rattle.table.specs.Messages.{oldKey}
+use Rattle.keys.specs.Messages.{oldKey}
 use Rattle.table.specs.Table.{symbolsOf, inBook, numberTable, contentTable, listTable, rowTable}
-use Rattle.table.specs.Taking.{linesBy, rowsBy, indexOf}
+use Rattle.take.specs.Taking.{linesBy, rowsBy, indexOf}
 use Rattle.show.specs.Showing.{shownOf, nothingShown}
 
 abbrev pub said : ℕ → Counters → Said

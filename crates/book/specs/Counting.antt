@@ -5,7 +5,7 @@ use mathlib.Core.Logic.{_⊎_}
 use mathlib.Core.Bool.{Bool, cond, _&&_}
 use lib.Dec.{leb}
 use Rattle.records.specs.declared.Record.{Record}
-use Rattle.table.specs.Messages.{isEvent, makesNew, phaseOf}
+use Rattle.keys.specs.Messages.{isEvent, makesNew, phaseOf}
 use Rattle.lines.specs.Lines.{lineLimit}
 use Rattle.rows.specs.Rows.{rowLimit}
 use Rattle.book.specs.declared.counters.Counters.{Counters}

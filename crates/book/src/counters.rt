@@ -1,7 +1,7 @@
 // The counters' moves, each returning the new value.
 use answers::Answer;
+use keys::phase_of;
 use records::Record;
-use table::judge::phase_of;
 ghost use mathlib.Core.Path.{_≡_};
 ghost use Prim.Native.Nat.{_+_, _<_, _^_};
 ghost use Rattle.answers.specs.Answers.{answerOf};

@@ -19,8 +19,8 @@ use Rattle.message.specs.Fields.{fieldsS, fieldsTrade, fieldsT, fieldsC, fields
 use Rattle.message.specs.Reading.{refusedOf, acceptedOf, judgedOf, misshapen, readOf}
 use Rattle.lines.specs.declared.Line.{Line}
 use Rattle.lines.specs.Lines.{lineLimit, lineBytes, mark, usedLines, lineWith, lineIn, withLine, withDead}
-use Rattle.table.specs.Messages.{isTrade, isCancel, isCorrection, oldKey, newSale}
-use Rattle.table.specs.Taking.{madeLine, correctedLine, linesBy, indexOf}
+use Rattle.keys.specs.Messages.{isTrade, isCancel, isCorrection, oldKey, newSale}
+use Rattle.take.specs.Taking.{madeLine, correctedLine, linesBy, indexOf}
 use Rattle.book.specs.declared.counters.Counters.{Counters}
 use Rattle.book.specs.Calls.{deliverAnswer, deliverLines}
 

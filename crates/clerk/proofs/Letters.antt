@@ -13,7 +13,7 @@ use Rattle.records.specs.declared.Record.{Record}
 use Rattle.message.specs.declared.Reading.{Reading}
 use Rattle.lines.specs.declared.Line.{Line}
 use Rattle.lines.specs.Lines.{lineWith}
-use Rattle.table.specs.Messages.{isEvent, isTrade, isCancel, isCorrection, isSummary, namesOld, makesNew, due, oldKey, newKey}
+use Rattle.keys.specs.Messages.{isEvent, isTrade, isCancel, isCorrection, isSummary, namesOld, makesNew, due, oldKey, newKey}
 use Rattle.table.specs.Table.{Case, lowest, borne, deadAt, differsAt, listed, contentTable, listTable}
 use Rattle.table.proofs.Tables.{Rising, RisingFrom, listing-rising}
 

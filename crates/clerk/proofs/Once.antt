@@ -11,7 +11,7 @@ use Rattle.octets.specs.Run.{same}
 use Rattle.octets.proofs.Trips.{same-is}
 use Rattle.records.specs.declared.Record.{Record}
 use Rattle.lines.specs.declared.Line.{Line}
-use Rattle.table.specs.Messages.{namesOld, makesNew, oldKey, newKey}
+use Rattle.keys.specs.Messages.{namesOld, makesNew, oldKey, newKey}
 use Rattle.table.specs.Table.{listed}
 use Rattle.walk.specs.declared.Figures.{Figures}
 use Rattle.walk.specs.Figures.{figuresOf}

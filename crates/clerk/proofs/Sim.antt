@@ -22,9 +22,9 @@ use Rattle.lines.specs.Lines.{lineWith}
 use Rattle.rows.specs.Rows.{isOf, rowWith}
 use Rattle.lines.specs.Changed.{dead}
 use Rattle.rows.specs.Changed.{listedRow}
-use Rattle.table.specs.Messages.{isEvent, isSummary, namesOld, makesNew, phaseOf, oldKey, newKey, newSale}
+use Rattle.keys.specs.Messages.{isEvent, isSummary, namesOld, makesNew, phaseOf, oldKey, newKey, newSale}
 use Rattle.table.specs.Table.{lowest, listed, symbolsOf, listTable}
-use Rattle.table.specs.Taking.{madeLine, correctedLine}
+use Rattle.take.specs.Taking.{madeLine, correctedLine}
 use Rattle.clerk.specs.Steps.{Book, lineFound, killFound, linesAfter, kept, keepFound, rowsAfter, taking, usingUp, content, after}
 use Rattle.clerk.specs.Clerk.{Listing, symbolsIn, sheetFrom, Taken, phaseAfter, Origin, originOf, names, trade, made, tradesBut, tradesOf, answerTo, takenOf, summaryOf, reportedOf, rowOf, bookBy, clerkBook}
 use Rattle.clerk.specs.Arrivals.{play}

@@ -27,9 +27,9 @@ use Rattle.rows.specs.Changed.{listedRow, reporting, summarised}
 use Rattle.cells.proofs.Slabs.{found-below}
 use Rattle.lines.proofs.Slabs.{lines-put, lines-kill, line-in, dead-length, used-lines-length}
 use Rattle.rows.proofs.Slabs.{rows-put, rows-report, rows-summary, row-length, used-rows-length}
-use Rattle.table.specs.Messages.{isEvent, isCorrection, isSummary, namesOld, makesNew, phaseOf, oldKey}
+use Rattle.keys.specs.Messages.{isEvent, isCorrection, isSummary, namesOld, makesNew, phaseOf, oldKey}
 use Rattle.table.specs.Table.{Case, symbolsOf, isFound, listed, lowest, numberTable, listTable}
-use Rattle.table.specs.Taking.{madeLine, correctedLine, linesBy, rowsBy, indexOf}
+use Rattle.take.specs.Taking.{madeLine, correctedLine, linesBy, rowsBy, indexOf}
 use Rattle.table.proofs.Tables.{listed-found, rows-full, Wanted, number-wanted, number-content}
 use Rattle.book.specs.declared.counters.Counters.{Counters}
 use Rattle.book.specs.Counting.{freshCounters, usedUp, oneRowMore, takenBy, sound}

@@ -8,7 +8,7 @@ use mathlib.Core.Bool.{true, false}
 use Rattle.answers.specs.Answers.{answerOf}
 use Rattle.answers.specs.declared.Answer.{Answer}
 use Rattle.lines.specs.declared.Line.{Line}
-use Rattle.table.specs.Messages.{makesNew, newKey}
+use Rattle.keys.specs.Messages.{makesNew, newKey}
 use Rattle.table.specs.Table.{listed}
 use Rattle.clerk.specs.Clerk.{Listing, Taken, names, originOf, trade, answerTo, takenOf}
 use Rattle.clerk.specs.Arrivals.{upto}

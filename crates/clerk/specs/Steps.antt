@@ -15,9 +15,9 @@ use Rattle.lines.specs.Lines.{lineWith, noLine, usedLines}
 use Rattle.rows.specs.Rows.{rowWith, noRow, usedRows}
 use Rattle.lines.specs.Changed.{dead}
 use Rattle.rows.specs.Changed.{listedRow, reporting, summarised}
-use Rattle.table.specs.Messages.{isEvent, isTrade, isCancel, isCorrection, isSummary, makesNew, phaseOf, oldKey}
+use Rattle.keys.specs.Messages.{isEvent, isTrade, isCancel, isCorrection, isSummary, makesNew, phaseOf, oldKey}
 use Rattle.table.specs.Table.{lowest, symbolsOf, numberTable, contentTable, listTable}
-use Rattle.table.specs.Taking.{madeLine, correctedLine}
+use Rattle.take.specs.Taking.{madeLine, correctedLine}
 use Rattle.book.specs.declared.counters.Counters.{Counters}
 
 -- rows and used lines in the order added, the wanted number, the phase, and the counts: rows used, lines used, messages taken

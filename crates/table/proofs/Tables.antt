@@ -26,8 +26,8 @@ use Rattle.lines.specs.Lines.{lineLimit, usedLines, lineWith, noLine}
 use Rattle.rows.specs.Rows.{rowLimit, usedRows, isOf, rowWith}
 use Rattle.lines.proofs.Slabs.{used-lines-length}
 use Rattle.rows.proofs.Slabs.{used-rows-length}
-use Rattle.table.specs.declared.judge.Verdict.{Verdict}
-use Rattle.table.specs.Messages.{isEvent, namesOld, makesNew, trading, due, phaseOf, oldKey, newKey, matches}
+use Rattle.table.specs.declared.Verdict.{Verdict}
+use Rattle.keys.specs.Messages.{isEvent, namesOld, makesNew, trading, due, phaseOf, oldKey, newKey, matches}
 use Rattle.table.specs.Table.{Case, says, lowest, inBook, isFound, borne, deadAt, differsAt, listed, numberTable, contentTable, listTable}
 use Rattle.table.specs.Table.{symbolsOf}
 use Rattle.table.specs.Working.{plainly, naming, namedAt, namedBy, madeAt, madeBy, thenMade, tradeBy, onRow, listedAt, dueBy, judgedBy}

@@ -1,4 +1,2 @@
-pub mod Messages
 pub mod Table
-pub mod Taking
 pub mod Working

@@ -17,7 +17,7 @@ use Rattle.cells.specs.declared.Found.the-variants.{Nothing, At}
 use Rattle.lines.specs.declared.Line.{Line}
 use Rattle.rows.specs.declared.Row.{Row}
 use Rattle.lines.specs.Lines.{lineWith, noLine}
-use Rattle.table.specs.Messages.{isEvent, namesOld, makesNew, due, oldKey, newKey, matches}
+use Rattle.keys.specs.Messages.{isEvent, namesOld, makesNew, due, oldKey, newKey, matches}
 
 -- ---- a table
 

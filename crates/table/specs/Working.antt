@@ -16,8 +16,8 @@ use Rattle.lines.specs.declared.Line.{Line}
 use Rattle.lines.specs.Lines.{lineWith, noLine}
 use Rattle.rows.specs.declared.Row.{Row}
 use Rattle.rows.specs.Rows.{rowWith}
-use Rattle.table.specs.declared.judge.Verdict.{Verdict}
-use Rattle.table.specs.Messages.{isEvent, namesOld, makesNew, trading, phaseOf, oldKey, newKey, matches}
+use Rattle.table.specs.declared.Verdict.{Verdict}
+use Rattle.keys.specs.Messages.{isEvent, namesOld, makesNew, trading, phaseOf, oldKey, newKey, matches}
 
 -- an answer that needs no row and no line
 abbrev pub plainly : Answer → Verdict

@@ -16,9 +16,9 @@ use Rattle.message.specs.Reading as Reading
 use Rattle.cells.specs.Search as Search
 use Rattle.lines.specs.Lines as Lines
 use Rattle.rows.specs.Rows as Rows
-use Rattle.table.specs.Messages as Messages
+use Rattle.keys.specs.Messages as Messages
 use Rattle.table.specs.Table as Table
-use Rattle.table.specs.Taking as Taking
+use Rattle.take.specs.Taking as Taking
 use Rattle.book.specs.Counting as Counting
 use Rattle.book.specs.Calls as Calls
 use Rattle.tape.specs.Entries as Entries

@@ -35,9 +35,9 @@ use Rattle.lines.specs.Lines as Lines
 use Rattle.rows.specs.Rows as Rows
 use Rattle.walk.specs.Figures as Figures
 use Rattle.show.specs.Showing as Showing
-use Rattle.table.specs.Messages as Messages
+use Rattle.keys.specs.Messages as Messages
 use Rattle.table.specs.Table as Table
-use Rattle.table.specs.Taking as Taking
+use Rattle.take.specs.Taking as Taking
 use Rattle.book.specs.Counting as Counting
 use Rattle.book.specs.Calls as Calls
 use Rattle.clerk.specs.Clerk as Clerk
