@@ -2,6 +2,7 @@ pub mod Lengths
 pub mod Written
 pub mod Said
 pub mod Filled
+pub mod Kept
 pub mod Fitting
 pub mod Packing
 pub mod Shapes

@@ -149,7 +149,7 @@ pub fn read_packed(message: &[u8], b: &mut [u8; 80]) -> Answer
         return Answer::NoType;
     }
     fields(b, message);
-    if rules::lawful(b) {
+    if rules::kept(b) {
         return Answer::Done;
     }
     *b = [0u8; 80];

@@ -19,7 +19,7 @@ use Rattle.octets.proofs.Trips.{join, alone, here}
 use Rattle.sheet.specs.declared.Marks.{Marks}
 use Rattle.sheet.specs.Sheet.{marksOf, conditionMarks}
 use Rattle.records.specs.Rules as Rules
-use Rattle.records.specs.Lawful.{saleNone, pricesNone, tradeOk, saleOk, lawfulS, lawfulT, lawfulC, lawfulJ}
+use Rattle.records.specs.Lawful.{saleNone, pricesNone, tradeOk, keptS, keptC, keptJ, lawfulS, lawfulT, lawfulC, lawfulJ}
 use Rattle.packed.specs.Packed.{saleAt, recordOf}
 
 -- ---- runs
@@ -117,22 +117,18 @@ lacks-j p b =
 -- ---- the rules of each type
 
 module _ (b : List ℕ) where
-  pub s-said : Rules.time (be (part b 1 4)) && Rules.event (getD b 5 0) && all 0 (part b 6 74) ≡ lawfulS (recordOf b)
+  pub s-said : keptS (recordOf b) && all 0 (part b 6 74) ≡ lawfulS (recordOf b)
   unfolding lawfulS recordOf
-  s-said = sym (lacks-s (Rules.time (be (part b 1 4)) && Rules.event (getD b 5 0)) b)
+  s-said = sym (lacks-s (keptS (recordOf b)) b)
 
   pub t-said : tradeOk (recordOf b) && eqb (getD b 5 0) 0 && all 0 (part b 38 34) ≡ lawfulT (recordOf b)
   unfolding lawfulT recordOf
   t-said = sym (lacks-t (tradeOk (recordOf b) && eqb (getD b 5 0) 0) b)
 
-  pub c-said : tradeOk (recordOf b) && saleOk (saleAt b 38) && eqb (getD b 5 0) 0 && all 0 (part b 60 12) ≡ lawfulC (recordOf b)
+  pub c-said : keptC (recordOf b) && eqb (getD b 5 0) 0 && all 0 (part b 60 12) ≡ lawfulC (recordOf b)
   unfolding lawfulC recordOf
-  c-said = ap (λ (t : Bool). tradeOk (recordOf b) && saleOk (saleAt b 38) && eqb (getD b 5 0) 0 && t) (sym (prices-zero b))
+  c-said = ap (λ (t : Bool). keptC (recordOf b) && eqb (getD b 5 0) 0 && t) (sym (prices-zero b))
 
-  pub j-said : Rules.time (be (part b 1 4)) && Rules.text (part b 7 8) && Rules.class (getD b 15 0) && Rules.summaryPrice (be (part b 60 4))
-      && Rules.summaryPrice (be (part b 64 4)) && Rules.summaryPrice (be (part b 68 4)) && all 0 (part b 5 2) && all 0 (part b 16 44)
-      ≡ lawfulJ (recordOf b)
+  pub j-said : keptJ (recordOf b) && all 0 (part b 5 2) && all 0 (part b 16 44) ≡ lawfulJ (recordOf b)
   unfolding lawfulJ recordOf
-  j-said =
-      sym (lacks-j (Rules.time (be (part b 1 4)) && Rules.text (part b 7 8) && Rules.class (getD b 15 0) && Rules.summaryPrice (be (part b 60 4))
-      && Rules.summaryPrice (be (part b 64 4)) && Rules.summaryPrice (be (part b 68 4))) b)
+  j-said = sym (lacks-j (keptJ (recordOf b)) b)

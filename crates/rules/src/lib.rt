@@ -111,11 +111,56 @@ fn trade_ok(b: &[u8; 80]) -> bool
     time_ok(four(b, 1)) & centre_ok(b[6]) & text(b, 7, 8) & class_ok(b[15]) & sale_ok(b, 16)
 }
 
+// The rules of the fields that S has.
+fn kept_s(b: &[u8; 80]) -> bool
+    ensures { λ r. ⌜ r ≡ R.keptS (recordOf (now (b .entry))) ⌝ }
+{
+    time_ok(four(b, 1)) & event_ok(b[5])
+}
+
+fn kept_c(b: &[u8; 80]) -> bool
+    ensures { λ r. ⌜ r ≡ R.keptC (recordOf (now (b .entry))) ⌝ }
+{
+    trade_ok(b) & sale_ok(b, 38)
+}
+
+fn kept_j(b: &[u8; 80]) -> bool
+    ensures { λ r. ⌜ r ≡ R.keptJ (recordOf (now (b .entry))) ⌝ }
+{
+    time_ok(four(b, 1))
+        & text(b, 7, 8)
+        & class_ok(b[15])
+        & summary_price_ok(four(b, 60))
+        & summary_price_ok(four(b, 64))
+        & summary_price_ok(four(b, 68))
+}
+
+// Whether a record keeps the rules of the fields that its type has, whatever stands in the others: for a reader, who has just put zeros
+// there.
+pub fn kept(b: &[u8; 80]) -> bool
+    ensures { λ r. ⌜ r ≡ R.keptOf (recordOf (now (b .entry))) ⌝ }
+{
+    let letter = b[0];
+    if letter == b'S' {
+        return kept_s(b);
+    }
+    if letter == b'C' {
+        return kept_c(b);
+    }
+    if letter == b'J' {
+        return kept_j(b);
+    }
+    if (letter == b'T') | (letter == b'X') {
+        return trade_ok(b);
+    }
+    false
+}
+
 // Each type's rules, and then the fields that it lacks.
 fn lawful_s(b: &[u8; 80]) -> bool
     ensures { λ r. ⌜ r ≡ R.lawfulS (recordOf (now (b .entry))) ⌝ }
 {
-    time_ok(four(b, 1)) & event_ok(b[5]) & none(b, 6, 74)
+    kept_s(b) & none(b, 6, 74)
 }
 
 // T and X.
@@ -128,20 +173,13 @@ fn lawful_t(b: &[u8; 80]) -> bool
 fn lawful_c(b: &[u8; 80]) -> bool
     ensures { λ r. ⌜ r ≡ R.lawfulC (recordOf (now (b .entry))) ⌝ }
 {
-    trade_ok(b) & sale_ok(b, 38) & (b[5] == 0) & none(b, 60, 12)
+    kept_c(b) & (b[5] == 0) & none(b, 60, 12)
 }
 
 fn lawful_j(b: &[u8; 80]) -> bool
     ensures { λ r. ⌜ r ≡ R.lawfulJ (recordOf (now (b .entry))) ⌝ }
 {
-    time_ok(four(b, 1))
-        & text(b, 7, 8)
-        & class_ok(b[15])
-        & summary_price_ok(four(b, 60))
-        & summary_price_ok(four(b, 64))
-        & summary_price_ok(four(b, 68))
-        & none(b, 5, 2)
-        & none(b, 16, 44)
+    kept_j(b) & none(b, 5, 2) & none(b, 16, 44)
 }
 
 // Whether a record keeps every rule of its type and has nothing in a field that the type lacks.

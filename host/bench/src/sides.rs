@@ -227,7 +227,7 @@ impl Proved {
         }
         let more = day::of_last_row(lines, MORE, rows);
         let mut row = [0; 15];
-        let read = (0..5)
+        let read = (0..25)
             .map(|_| {
                 timed(|| {
                     black_box(sorundappa::raw::row(
