@@ -72,9 +72,9 @@ fields-j-fit m b =
       symbol = part-length m 5 8;
       sale = no-sale-fits;
       new = no-sale-fits;
-      high = number-fits m 14 b;
-      low = number-fits m 18 b;
-      close = number-fits m 22 b;
+      high = number-fits m _ b;
+      low = number-fits m _ b;
+      close = number-fits m _ b;
       consolidated = be-below m 26 8 b;
     }
 
