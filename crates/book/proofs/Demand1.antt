@@ -11,7 +11,7 @@ use borrow.Author.Tests.{eqb-true, ne-eqb, not-true}
 use lib.Dec.{eqb, ltb, leb, lit<}
 use lib.ListN.{length, getD}
 use Rattle.octets.specs.Run.{Bytes}
-use Rattle.octets.proofs.Laws.{be-below}
+use Rattle.numbers.proofs.Laws.{be-below}
 use Rattle.answers.specs.Answers.{numberOf, answerOf}
 use Rattle.records.specs.Fits.{RecordFits}
 use Rattle.message.specs.Reading.{readOf}

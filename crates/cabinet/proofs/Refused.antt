@@ -5,7 +5,7 @@ use mathlib.Core.Path.{_≡_, refl, ap, _∙_}
 use mathlib.Core.Bool.{true}
 use mathlib.Core.List.{List}
 use lib.ListN.{length, replicate}
-use Rattle.octets.specs.Number.{be}
+use Rattle.numbers.specs.Number.{be}
 use Rattle.answers.specs.Answers.{numberOf}
 use Rattle.message.specs.Reading.{readOf}
 use Rattle.layouts.proofs.Demand2.{read-refused}

@@ -8,7 +8,7 @@ use lib.Dec.{eqb, ltb, lit<}
 use lib.ListN.{length, getD, set, replicate}
 use lib.Seq.{sets}
 use Rattle.octets.specs.Run.{tab, past, part, Bytes}
-use Rattle.octets.specs.Number.{digits}
+use Rattle.numbers.specs.Number.{digits}
 use Rattle.records.specs.declared.Sale.{Sale}
 use Rattle.records.specs.declared.Record.{Record}
 use Rattle.message.specs.declared.Reading.{Reading}

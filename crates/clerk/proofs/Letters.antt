@@ -8,7 +8,7 @@ use native.Mathlib.Omega.{arith}
 use borrow.Author.Tests.{eqb-true, ne-eqb, not-false, leb-false, ltb-false}
 use lib.Dec.{eqb, ltb, lit<}
 use lib.ListN.{length}
-use Rattle.octets.specs.Text.{text}
+use Rattle.texts.specs.Text.{text}
 use Rattle.records.specs.declared.Record.{Record}
 use Rattle.message.specs.declared.Reading.{Reading}
 use Rattle.lines.specs.declared.Line.{Line}

@@ -8,9 +8,9 @@ use Prim.Native.Nat.{ℕ}
 use lib.Dec.{eqb}
 use lib.ListN.{replicate, take}
 use Rattle.octets.specs.Run.{tab, part}
-use Rattle.octets.specs.Number.{be, digits}
-use Rattle.octets.specs.Text.{text}
-use Rattle.sheet.specs.Sheet.{sheetAt, conditionMarks}
+use Rattle.numbers.specs.Number.{be, digits}
+use Rattle.texts.specs.Text.{text}
+use Rattle.conditions.specs.Conditions.{levelAt, conditionMarks}
 use Rattle.answers.specs.Answers.{numberOf}
 use Rattle.layouts.specs.Layouts.{MessageType, S, T, X, C, J, letterOf, Obeys}
 use Rattle.records.specs.Lawful.{saleOk, saleNone, pricesNone, tradeOk, lawfulS, lawfulT, lawfulC, lawfulJ, lawfulOf}
@@ -61,7 +61,7 @@ cases =
     ∷ []
 
 computed : (right cases ≡ true) × ((t : MessageType) → numberOf (readOf (sample t 1000 251000) .answer) ≡ 0)
-unfolding tab part be digits text sheetAt conditionMarks lengthBy saleAt fieldsS fieldsTrade fieldsJ fieldsOf saleOk saleNone pricesNone tradeOk lawfulS lawfulT lawfulC lawfulJ lawfulOf judgedOf readOf
+unfolding tab part be digits text levelAt conditionMarks lengthBy saleAt fieldsS fieldsTrade fieldsJ fieldsOf saleOk saleNone pricesNone tradeOk lawfulS lawfulT lawfulC lawfulJ lawfulOf judgedOf readOf
 computed = (refl, each)
   where
     each : (t : MessageType) → numberOf (readOf (sample t 1000 251000) .answer) ≡ 0

@@ -9,10 +9,11 @@ use borrow.Author.Tests.{eqb-true}
 use lib.Dec.{eqb}
 use lib.ListN.{length, drop, getD}
 use Rattle.octets.specs.Run.{part, Bytes}
-use Rattle.octets.specs.Number.{be, digits}
-use Rattle.octets.specs.Text.{all}
-use Rattle.octets.proofs.Laws.{digits-length}
-use Rattle.octets.proofs.Trips.{digits-part, alone, link, join, whole, walk, step, here, first, zeros}
+use Rattle.numbers.specs.Number.{be, digits}
+use Rattle.octets.specs.Run.{all}
+use Rattle.numbers.proofs.Laws.{digits-length}
+use Rattle.numbers.proofs.Trips.{digits-part}
+use Rattle.octets.proofs.Trips.{alone, link, join, whole, walk, step, here, first, zeros}
 use Rattle.records.specs.declared.Sale.{Sale}
 use Rattle.records.specs.declared.Record.{Record}
 use Rattle.records.specs.Fits.{SaleFits, RecordFits}

@@ -8,9 +8,9 @@ use mathlib.Core.Bool.{Bool, true, false, cond}
 use lib.Dec.{eqb}
 use lib.ListN.{length, getD}
 use Rattle.octets.specs.Run.{part}
-use Rattle.octets.specs.Number.{be}
-use Rattle.octets.specs.Text.{all}
-use Rattle.sheet.specs.Sheet.{among}
+use Rattle.numbers.specs.Number.{be}
+use Rattle.octets.specs.Run.{all}
+use Rattle.conditions.specs.Conditions.{among}
 use Rattle.records.specs.Rules as Rules
 use Rattle.records.specs.declared.Record.{Record}
 

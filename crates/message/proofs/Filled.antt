@@ -7,8 +7,9 @@ use Prim.Native.Nat.{ℕ, _+_, _^_, _<_}
 use lib.Dec.{eqb, lit<}
 use lib.ListN.{getD}
 use Rattle.octets.specs.Run.{part, Bytes}
-use Rattle.octets.specs.Number.{be}
-use Rattle.octets.proofs.Laws.{part-length, be-below}
+use Rattle.numbers.specs.Number.{be}
+use Rattle.octets.proofs.Laws.{part-length}
+use Rattle.numbers.proofs.Laws.{be-below}
 use Rattle.records.specs.declared.Sale.{Sale}
 use Rattle.records.specs.declared.Record.{Record}
 use Rattle.records.specs.Fits.{SaleFits, RecordFits}

@@ -10,7 +10,7 @@ use lib.Dec.{eqb}
 use lib.ListN.{length, length-append}
 use Rattle.records.specs.declared.Record.{Record}
 use Rattle.records.specs.Lawful.{lawfulOf}
-use Rattle.octets.proofs.Laws.{digits-length}
+use Rattle.numbers.proofs.Laws.{digits-length}
 use Rattle.message.specs.Bytes.{headBytes, priceBytes, bytesS, bytesT, bytesC, bytesJ, bytesOf}
 use Rattle.packed.proofs.Stores.{Long}
 use Rattle.message.specs.Reading.{lengthBy}

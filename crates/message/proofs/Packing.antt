@@ -7,9 +7,10 @@ use native.Mathlib.Omega.{arith}
 use lib.ListN.{getD, set, replicate}
 use lib.Seq.{sets}
 use Rattle.octets.specs.Run.{tab, part, Bytes}
-use Rattle.octets.specs.Number.{digits}
+use Rattle.numbers.specs.Number.{digits}
 use Rattle.octets.proofs.Laws.{sets-then, part-length}
-use Rattle.octets.proofs.Trips.{digits-part, join}
+use Rattle.numbers.proofs.Trips.{digits-part}
+use Rattle.octets.proofs.Trips.{join}
 use Rattle.records.specs.Zeros.{noSale}
 use Rattle.packed.specs.Packed.{saleBytes, frontBytes, endBytes, recordBytes, recordOf}
 use Rattle.packed.proofs.Again.{sale-again}

@@ -5,7 +5,7 @@ use Prim.Native.Nat.{ℕ}
 use mathlib.Core.List.{List, [], _∷_, _++_}
 use mathlib.Core.Bool.{cond}
 use lib.Dec.{eqb}
-use Rattle.octets.specs.Number.{digits}
+use Rattle.numbers.specs.Number.{digits}
 use Rattle.records.specs.declared.Record.{Record}
 use Rattle.packed.specs.Packed.{saleBytes}
 

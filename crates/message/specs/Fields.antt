@@ -7,7 +7,7 @@ use mathlib.Core.Bool.{cond}
 use lib.Dec.{eqb}
 use lib.ListN.{getD, replicate}
 use Rattle.octets.specs.Run.{part}
-use Rattle.octets.specs.Number.{be}
+use Rattle.numbers.specs.Number.{be}
 use Rattle.records.specs.declared.Sale.{Sale}
 use Rattle.records.specs.declared.Record.{Record}
 use Rattle.records.specs.Zeros.{noSale}

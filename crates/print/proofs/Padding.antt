@@ -9,7 +9,7 @@ use borrow.Author.Tests.{ne-eqb, eqb-false}
 use lib.Dec.{eqb}
 use lib.ListN.{length, take, getD, length-append}
 use lib.Seq.{take-suc, take-append-seam}
-use Rattle.octets.specs.Text.{all}
+use Rattle.octets.specs.Run.{all}
 use Rattle.print.specs.Texts.{kept, symbolText, Unpadded}
 
 -- ---- what is left means what it should

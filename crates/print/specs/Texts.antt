@@ -5,7 +5,7 @@ use mathlib.Core.Path.{_≡_}
 use mathlib.Core.List.{List, [], _∷_, _++_}
 use mathlib.Core.Bool.{true, cond}
 use lib.Dec.{eqb}
-use Rattle.octets.specs.Text.{all}
+use Rattle.octets.specs.Run.{all}
 use Rattle.decimal.specs.Letters.{letters}
 use Rattle.decimal.specs.Decimal.{decimal}
 use Rattle.decimal.specs.Amount.{amountText, signedText}

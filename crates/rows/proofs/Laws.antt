@@ -7,8 +7,8 @@ use native.Mathlib.Nat.{add-zero}
 use native.Mathlib.Omega.{arith}
 use lib.ListN.{length, set, replicate}
 use lib.Seq.{sets}
-use Rattle.octets.specs.Number.{digits}
-use Rattle.octets.proofs.Laws.{digits-length}
+use Rattle.numbers.specs.Number.{digits}
+use Rattle.numbers.proofs.Laws.{digits-length}
 use Rattle.rows.specs.Rows.{newRow, reportBytes, summaryBytes}
 use Rattle.cells.proofs.Laws.{then-stored}
 

@@ -7,8 +7,8 @@ use native.Mathlib.Nat.{add-zero}
 use native.Mathlib.Omega.{arith}
 use lib.ListN.{length, getD, set, drop, replicate, length-append}
 use Rattle.octets.specs.Run.{part}
-use Rattle.octets.specs.Number.{be, digits}
-use Rattle.octets.proofs.Laws.{digits-length}
+use Rattle.numbers.specs.Number.{be, digits}
+use Rattle.numbers.proofs.Laws.{digits-length}
 use Rattle.octets.proofs.Trips as trips
 use Rattle.rows.specs.declared.Row.{Row}
 use Rattle.rows.specs.declared.Summary.{Summary}

@@ -8,7 +8,7 @@ use lib.ListN.{length, getD, replicate}
 use lib.Seq.{sets}
 use lib.Dec.{eqb, ltb}
 use Rattle.octets.specs.Run.{tab, part, same}
-use Rattle.octets.specs.Number.{be, digits}
+use Rattle.numbers.specs.Number.{be, digits}
 use Rattle.rows.specs.declared.Row.{Row}
 use Rattle.rows.specs.declared.Summary.{Summary}
 use Rattle.rows.specs.declared.Summary.the-variants.{NoSummary, HighLow}

@@ -12,12 +12,12 @@ use lib.Dec.{eqb}
 use lib.ListN.{length, take, drop, getD, length-drop, take-append-drop}
 use lib.Seq.{length-take-le}
 use Rattle.octets.specs.Run.{tab, part}
-use Rattle.octets.specs.Number.{beAfter, be}
-use Rattle.octets.specs.Text.{all}
+use Rattle.numbers.specs.Number.{beAfter, be}
+use Rattle.octets.specs.Run.{all}
 use Rattle.octets.proofs.Laws.{part-snoc}
 use Rattle.octets.proofs.Trips.{join, alone, here}
-use Rattle.sheet.specs.declared.Marks.{Marks}
-use Rattle.sheet.specs.Sheet.{marksOf, conditionMarks}
+use Rattle.conditions.specs.declared.Marks.{Marks}
+use Rattle.conditions.specs.Conditions.{marksOf, conditionMarks}
 use Rattle.records.specs.Rules as Rules
 use Rattle.records.specs.Lawful.{saleNone, pricesNone, tradeOk, keptS, keptC, keptJ, lawfulS, lawfulT, lawfulC, lawfulJ}
 use Rattle.packed.specs.Packed.{saleAt, recordOf}

@@ -4,8 +4,8 @@ ghost use mathlib.Core.Path.{_≡_};
 ghost use Prim.Native.Nat.{_+_, _≤_};
 ghost use lib.ListN.{length};
 ghost use Rattle.octets.specs.Run.{part};
-ghost use Rattle.octets.specs.Number.{be};
-ghost use Rattle.octets.specs.Text.{all};
+ghost use Rattle.numbers.specs.Number.{be};
+ghost use Rattle.octets.specs.Run.{all};
 ghost use Rattle.records.specs.Rules as Rules;
 ghost use Rattle.records.specs.Lawful as R;
 ghost use Rattle.packed.specs.Packed.{saleAt, recordOf};
@@ -87,10 +87,10 @@ fn condition_ok(b: &[u8; 80], at: usize) -> bool
     requires { ⌜ at + 4 ≤ 80 ⌝ }
     ensures { λ r. ⌜ r ≡ Rules.condition (part (now (b .entry)) at 4) ⌝ }
 {
-    let first = sheet::code_marks(1, b[at]);
-    let second = sheet::code_marks(2, b[at + 1]);
-    let third = sheet::code_marks(3, b[at + 2]);
-    let fourth = sheet::code_marks(4, b[at + 3]);
+    let first = conditions::code_marks(1, b[at]);
+    let second = conditions::code_marks(2, b[at + 1]);
+    let third = conditions::code_marks(3, b[at + 2]);
+    let fourth = conditions::code_marks(4, b[at + 3]);
     first.on_sheet & second.on_sheet & third.on_sheet & fourth.on_sheet
 }
 

@@ -8,7 +8,7 @@ use mathlib.Core.Bool.{Bool, true, false, cond, not, _&&_, _||_}
 use lib.Dec.{eqb, ltb, leb}
 use lib.ListN.{length, getD}
 use Rattle.octets.specs.Run.{same}
-use Rattle.octets.specs.Text.{text}
+use Rattle.texts.specs.Text.{text}
 use Rattle.answers.specs.Answers.{numberOf}
 use Rattle.records.specs.declared.Record.{Record}
 use Rattle.message.specs.declared.Reading.{Reading}

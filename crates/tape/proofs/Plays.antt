@@ -9,7 +9,7 @@ use borrow.Author.Tests.{eq-eqb, ne-eqb}
 use lib.ListN.{length, take, drop, getD, length-drop}
 use lib.Seq.{take-all, length-take-le, drop-drop}
 use Rattle.octets.specs.Run.{part}
-use Rattle.octets.specs.Number.{be}
+use Rattle.numbers.specs.Number.{be}
 use Rattle.book.specs.declared.counters.Counters.{Counters}
 use Rattle.book.specs.declared.Said.{Said}
 use Rattle.book.specs.Calls.{listSaid, listRows, deliverSaid, deliverRows, deliverLines}

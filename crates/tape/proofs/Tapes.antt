@@ -10,9 +10,11 @@ use lib.Dec.{eqb, leb, lit<}
 use lib.ListN.{length, take, drop, length-append, length-drop, take-append-drop}
 use lib.Seq.{getD-drop, getD-append-add, take-append-seam, drop-append-seam, length-take-le}
 use Rattle.octets.specs.Run.{part, Bytes}
-use Rattle.octets.specs.Number.{be, digits}
-use Rattle.octets.proofs.Laws.{part-length, be-below, digits-length}
-use Rattle.octets.proofs.Trips.{be-digits, digits-part, join, walk, here, last}
+use Rattle.numbers.specs.Number.{be, digits}
+use Rattle.octets.proofs.Laws.{part-length}
+use Rattle.numbers.proofs.Laws.{be-below, digits-length}
+use Rattle.numbers.proofs.Trips.{be-digits, digits-part}
+use Rattle.octets.proofs.Trips.{join, walk, here, last}
 use Rattle.tape.specs.Entries.{messageLength, bodyLength, Entry, Listing, Message, bytesOf, Sized, headOf, listingOf, messageOf, entryOf, Each, tapeOf, Tape, endOf}
 use Rattle.tape.specs.Playing.{State, acted, actedAll, further, play}
 use Rattle.tape.specs.declared.Stop.{Stop}

@@ -3,12 +3,12 @@
 use Prim.Native.Nat.{ℕ, _*_}
 use mathlib.Core.List.{List, [], _∷_, _++_}
 use lib.ListN.{replicate}
-use Rattle.octets.specs.Number.{digits}
+use Rattle.numbers.specs.Number.{digits}
 use Rattle.book.specs.Counting.{freshCounters}
 use Rattle.octets.specs.Run as Run
-use Rattle.octets.specs.Number as Number
-use Rattle.octets.specs.Text as Text
-use Rattle.sheet.specs.Sheet as Sheet
+use Rattle.numbers.specs.Number as Number
+use Rattle.texts.specs.Text as Text
+use Rattle.conditions.specs.Conditions as Conditions
 use Rattle.records.specs.Lawful as Lawful
 use Rattle.packed.specs.Packed.{saleAt}
 use Rattle.message.specs.Fields as Fields
@@ -59,7 +59,7 @@ abbrev pub freshRooms : State
 freshRooms = stateOf freshCounters (replicate 65 35) (replicate 483 35)
 
 unfoldable pub playW : Play
-unfolding tapeW Run.tab Run.part Number.be Number.digits Text.text Sheet.sheetAt Sheet.marksOf Sheet.conditionMarks
+unfolding tapeW Run.tab Run.part Number.be Number.digits Text.text Conditions.levelAt Conditions.marksOf Conditions.conditionMarks
     Reading.lengthBy saleAt Fields.fieldsS Fields.fieldsTrade Fields.fieldsJ Fields.fieldsOf Lawful.saleOk Lawful.saleNone Lawful.pricesNone Lawful.tradeOk Lawful.lawfulS Lawful.lawfulT Lawful.lawfulC Lawful.lawfulJ Lawful.lawfulOf Reading.judgedOf Reading.readOf
     Search.first Lines.lineFrom Lines.lineBytes Lines.usedLines Lines.lineIn Lines.withLine Lines.withDead
     Rows.summaryAt Rows.reportedAt Rows.rowFrom Rows.newRow Rows.reportBytes Rows.summaryBytes Rows.usedRows Rows.rowIn Rows.inRow

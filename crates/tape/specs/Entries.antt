@@ -7,7 +7,7 @@ use mathlib.Core.Bool.{Bool, false, cond, _||_}
 use lib.Dec.{eqb, leb}
 use lib.ListN.{length, drop, getD}
 use Rattle.octets.specs.Run.{part}
-use Rattle.octets.specs.Number.{be, digits}
+use Rattle.numbers.specs.Number.{be, digits}
 use Rattle.tape.specs.declared.Stop.{Stop}
 use Rattle.tape.specs.declared.Stop.the-variants.{Ended, NoKind, CutShort}
 use Rattle.tape.specs.declared.entries.Head.{Head}

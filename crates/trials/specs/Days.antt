@@ -8,7 +8,7 @@ use mathlib.Core.List.{List, [], _∷_, _++_, map}
 use mathlib.Core.Bool.{Bool, true, false}
 use lib.IntN.{pos, negsuc}
 use lib.ListN.{getD, replicate}
-use Rattle.octets.specs.Number.{digits}
+use Rattle.numbers.specs.Number.{digits}
 use Rattle.answers.specs.Answers.{numberOf}
 use Rattle.lines.specs.Lines.{lineLimit}
 use Rattle.rows.specs.Rows.{rowLimit}
@@ -23,9 +23,9 @@ use Rattle.book.specs.declared.counters.Counters.{Counters}
 use Rattle.book.specs.Counting.{freshCounters}
 use Rattle.book.specs.Calls.{listSaid, listRows, deliverSaid, deliverRows, deliverLines, rowShown}
 use Rattle.octets.specs.Run as Run
-use Rattle.octets.specs.Number as Number
-use Rattle.octets.specs.Text as Text
-use Rattle.sheet.specs.Sheet as Sheet
+use Rattle.numbers.specs.Number as Number
+use Rattle.texts.specs.Text as Text
+use Rattle.conditions.specs.Conditions as Conditions
 use Rattle.records.specs.Lawful as Lawful
 use Rattle.packed.specs.Packed.{saleAt}
 use Rattle.message.specs.Fields as Fields
@@ -219,7 +219,7 @@ keptAfter day k [] = k
 keptAfter day k (n ∷ ns) = keptAfter day (given k n (day n)) ns
 
 unfoldable pub saidBack : Case → List ℕ
-unfolding Run.tab Run.part Number.be Number.digits Text.text Sheet.sheetAt Sheet.marksOf Sheet.conditionMarks
+unfolding Run.tab Run.part Number.be Number.digits Text.text Conditions.levelAt Conditions.marksOf Conditions.conditionMarks
     Reading.lengthBy saleAt Fields.fieldsS Fields.fieldsTrade Fields.fieldsJ Fields.fieldsOf Lawful.saleOk Lawful.saleNone Lawful.pricesNone Lawful.tradeOk Lawful.lawfulS Lawful.lawfulT Lawful.lawfulC Lawful.lawfulJ Lawful.lawfulOf Reading.judgedOf Reading.readOf
     Search.first Lines.lineFrom Lines.lineBytes Lines.usedLines Lines.lineIn Lines.withLine Lines.withDead
     Rows.summaryAt Rows.reportedAt Rows.rowFrom Rows.newRow Rows.reportBytes Rows.summaryBytes Rows.usedRows Rows.rowIn Rows.inRow

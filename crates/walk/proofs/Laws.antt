@@ -10,11 +10,11 @@ use borrow.Author.Tests.{ne-eqb, eq-eqb}
 use lib.Dec.{eqb}
 use lib.ListN.{length, getD}
 use Rattle.octets.specs.Run.{tab, part, past, same, Bytes}
-use Rattle.octets.specs.Number.{be}
+use Rattle.numbers.specs.Number.{be}
 use Rattle.octets.proofs.Laws.{tab-step, tab-end}
 use Rattle.octets.proofs.Trips.{same-is, whole}
-use Rattle.sheet.specs.declared.Marks.{Marks}
-use Rattle.sheet.specs.Sheet.{conditionMarks}
+use Rattle.conditions.specs.declared.Marks.{Marks}
+use Rattle.conditions.specs.Conditions.{conditionMarks}
 use Rattle.lines.specs.Lines.{lineFrom}
 use Rattle.lines.specs.declared.Line.{Line}
 use Rattle.walk.specs.declared.Figures.{Figures}

@@ -11,7 +11,7 @@ use borrow.Author.Tests.{ltb-true, ltb-false}
 use lib.Dec.{ltb}
 use lib.ListN.{length, length-append}
 use Rattle.octets.specs.Run.{tab, Bytes}
-use Rattle.octets.proofs.Laws.{be-below}
+use Rattle.numbers.proofs.Laws.{be-below}
 use Rattle.lines.specs.declared.Line.{Line}
 use Rattle.walk.specs.declared.Price.{Price}
 use Rattle.walk.specs.declared.Price.the-variants.{Absent, Of}

@@ -5,8 +5,8 @@ use mathlib.Core.List.{List, [], _∷_}
 use mathlib.Core.Bool.{Bool, cond, _&&_}
 use lib.Dec.{ltb}
 use Rattle.octets.specs.Run.{same}
-use Rattle.sheet.specs.Sheet.{conditionMarks}
-use Rattle.sheet.specs.declared.Marks.{Marks}
+use Rattle.conditions.specs.Conditions.{conditionMarks}
+use Rattle.conditions.specs.declared.Marks.{Marks}
 use Rattle.lines.specs.declared.Line.{Line}
 use Rattle.walk.specs.declared.Price.{Price}
 use Rattle.walk.specs.declared.Price.the-variants.{Absent, Of}

@@ -6,7 +6,7 @@ use mathlib.Core.Path.{_≡_}
 use mathlib.Core.List.{List, [], _∷_, _++_, List·Memᴰ}
 use mathlib.Core.Bool.{Bool, cond}
 use lib.ListN.{length}
-use Rattle.sheet.specs.Sheet.{conditionMarks}
+use Rattle.conditions.specs.Conditions.{conditionMarks}
 use Rattle.lines.specs.declared.Line.{Line}
 use Rattle.walk.specs.declared.Price.{Price}
 use Rattle.walk.specs.declared.Price.the-variants.{Absent, Of}

@@ -6,7 +6,7 @@ use lines::PLACE;
 use lines::PRICE;
 use lines::SIZE;
 use lines::SYMBOL;
-use sheet::Marks;
+use conditions::Marks;
 ghost use mathlib.Core.Path.{_≡_};
 ghost use mathlib.Core.Bool.{cond, _&&_};
 ghost use Prim.Native.Nat.{_+_, _*_, _≤_, _<_, _^_};
@@ -131,7 +131,7 @@ fn with_line(t: Figures, lines: &[u8], at: usize) -> Figures
     let price = numbers::number4(lines, at + PRICE);
     let size = numbers::number4(lines, at + SIZE);
     let place = numbers::number4(lines, at + PLACE);
-    with_sale(t, price, size, place, sheet::condition_marks(condition))
+    with_sale(t, price, size, place, conditions::condition_marks(condition))
 }
 
 // The figures of a symbol, from its live lines among those used.

@@ -9,8 +9,9 @@ use lib.IntN.{ℤ, pos, negsuc}
 use lib.ListN.{length}
 use lib.Signed.{mag}
 use Rattle.octets.specs.Run.{Bytes}
-use Rattle.octets.specs.Number.{be, digits}
-use Rattle.octets.proofs.Trips.{digits-part, whole}
+use Rattle.numbers.specs.Number.{be, digits}
+use Rattle.numbers.proofs.Trips.{digits-part}
+use Rattle.octets.proofs.Trips.{whole}
 use Rattle.walk.specs.declared.Price.{Price}
 use Rattle.walk.specs.declared.Price.the-variants.{Absent, Of}
 use Rattle.rows.specs.declared.Reported.{Reported}

@@ -8,7 +8,7 @@ use lib.Dec.{eqb}
 use lib.ListN.{getD}
 use borrow.Author.Needs.{needs}
 use Rattle.octets.specs.Run.{part}
-use Rattle.octets.specs.Text.{all}
+use Rattle.octets.specs.Run.{all}
 use Rattle.rules.proofs.Zeros.{none-yet, none-turn}
 use Rattle.rules.proofs.none.Statement.{statement}
 use Rattle.rules.proofs.none.Tie as tie
