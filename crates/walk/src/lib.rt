@@ -1,4 +1,5 @@
 // The walk of one symbol's live lines into its figures.
+use conditions::Marks;
 use lines::CELL;
 use lines::CONDITION;
 use lines::LIVE;
@@ -6,7 +7,6 @@ use lines::PLACE;
 use lines::PRICE;
 use lines::SIZE;
 use lines::SYMBOL;
-use conditions::Marks;
 ghost use mathlib.Core.Path.{_≡_};
 ghost use mathlib.Core.Bool.{cond, _&&_};
 ghost use Prim.Native.Nat.{_+_, _*_, _≤_, _<_, _^_};
@@ -131,7 +131,13 @@ fn with_line(t: Figures, lines: &[u8], at: usize) -> Figures
     let price = numbers::number4(lines, at + PRICE);
     let size = numbers::number4(lines, at + SIZE);
     let place = numbers::number4(lines, at + PLACE);
-    with_sale(t, price, size, place, conditions::condition_marks(condition))
+    with_sale(
+        t,
+        price,
+        size,
+        place,
+        conditions::condition_marks(condition),
+    )
 }
 
 // The figures of a symbol, from its live lines among those used.

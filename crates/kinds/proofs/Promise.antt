@@ -1,0 +1,22 @@
+-- The contract leaves one possible answer; and each type has its own letter.
+-- Assumes nothing.
+use mathlib.Core.Path.{_≡_, refl, sym, _∙_}
+use Prim.Native.Nat.{ℕ}
+use Rattle.kinds.specs.declared.Kind.{Kind}
+use Rattle.kinds.specs.declared.Kind.the-variants.{Event, Trade, Cancel, Correction, Summary, Other}
+use Rattle.kinds.specs.Kinds.{letterOf, kindOf}
+use Rattle.kinds.proofs.kind_of.Reads as kind-of-reads
+
+pub kind-of-one : (letter letter₁ letter₂ : ℕ) (k k′ : Kind)
+    → kind-of-reads.Learnt tt (letter, tt) k (letter₁, tt) → kind-of-reads.Learnt tt (letter, tt) k′ (letter₂, tt) → k ≡ k′
+kind-of-one letter letter₁ letter₂ k k′ h h′ = h ∙ sym h′
+
+-- a type is found again by its letter, so no two share one
+pub kind-again : (k : Kind) → kindOf (letterOf k) ≡ k
+unfolding kindOf
+kind-again Event = refl
+kind-again Trade = refl
+kind-again Cancel = refl
+kind-again Correction = refl
+kind-again Summary = refl
+kind-again Other = refl
