@@ -1,10 +1,18 @@
-// Rows: one cell of 30 bytes for each listed symbol.
+// Rows: one cell of bytes for each listed symbol. The listings of the used rows, in their order, are the sheet of the day.
 use cells::Found;
 use numbers::lesser;
 ghost use mathlib.Core.Path.{_≡_};
 ghost use Prim.Native.Nat.{_+_, _*_, _≤_};
 ghost use lib.ListN.{length};
-ghost use Rattle.rows.specs.Rows.{rowFrom, noRow, summaryAt, reportedAt, rowLimit, usedRows, rowWith, rowIn, withRow, withReport, withSummary};
+ghost use Rattle.rows.specs.Cell.{rowCell};
+ghost use Rattle.rows.specs.Rows.{listingFrom, rowFrom, noRow, summaryAt, reportedAt, rowLimit, usedSheet, listingOf, rowIn};
+ghost use Rattle.rows.specs.Rows.{withRow, withReport, withSummary};
+
+// What is listed: a symbol and its adjusted previous close. A close of 0 is unknown.
+pub struct Listing {
+    pub symbol: [u8; 8],
+    pub close: u32,
+}
 
 // What the latest J that was taken says: its high and its low.
 pub enum Summary {
@@ -18,10 +26,9 @@ pub enum Reported {
     Volume(u64),
 }
 
-// A listed symbol. A close of 0 is unknown.
+// A listing, and what messages of its symbol left in its row.
 pub struct Row {
-    pub symbol: [u8; 8],
-    pub close: u32,
+    pub listing: Listing,
     pub summary: Summary,
     pub reported: Reported,
 }
@@ -51,9 +58,9 @@ pub fn limit(room: usize) -> usize
     lesser(CAP, room / CELL)
 }
 
-// The first used row of the symbol.
+// Which used row is the first of the symbol.
 pub fn find(rows: &[u8], used: usize, symbol: [u8; 8]) -> Found
-    ensures { λ r. ⌜ r ≡ rowWith symbol (usedRows (now (rows .entry)) used) ⌝ }
+    ensures { λ r. ⌜ r ≡ listingOf symbol (usedSheet (now (rows .entry)) used) ⌝ }
 {
     let n = lesser(used, limit(rows.len()));
     let mut i: usize = 0;
@@ -67,7 +74,7 @@ pub fn find(rows: &[u8], used: usize, symbol: [u8; 8]) -> Found
 }
 
 fn summary_at(rows: &[u8], at: usize) -> Summary
-    requires { ⌜ at + 30 ≤ length (now rows) ⌝ }
+    requires { ⌜ at + rowCell ≤ length (now rows) ⌝ }
     ensures { λ r. ⌜ r ≡ summaryAt (now (rows .entry)) at ⌝ }
 {
     let high = numbers::number4(rows, at + HIGH);
@@ -80,7 +87,7 @@ fn summary_at(rows: &[u8], at: usize) -> Summary
 }
 
 fn reported_at(rows: &[u8], at: usize) -> Reported
-    requires { ⌜ at + 30 ≤ length (now rows) ⌝ }
+    requires { ⌜ at + rowCell ≤ length (now rows) ⌝ }
     ensures { λ r. ⌜ r ≡ reportedAt (now (rows .entry)) at ⌝ }
 {
     let volume = numbers::number8(rows, at + VOLUME);
@@ -91,16 +98,26 @@ fn reported_at(rows: &[u8], at: usize) -> Reported
     }
 }
 
-// The row whose cell starts at an offset.
-fn read(rows: &[u8], at: usize) -> Row
-    requires { ⌜ at + 30 ≤ length (now rows) ⌝ }
-    ensures { λ r. ⌜ r ≡ rowFrom (now (rows .entry)) at ⌝ }
+// The listing of the row whose cell starts at an offset.
+fn listing_at(rows: &[u8], at: usize) -> Listing
+    requires { ⌜ at + rowCell ≤ length (now rows) ⌝ }
+    ensures { λ r. ⌜ r ≡ listingFrom (now (rows .entry)) at ⌝ }
 {
     let mut symbol = [0u8; 8];
     octets::run::fill(&mut symbol, rows, at);
-    Row {
+    Listing {
         symbol: symbol,
         close: numbers::number4(rows, at + CLOSE),
+    }
+}
+
+// The row whose cell starts at an offset.
+fn read(rows: &[u8], at: usize) -> Row
+    requires { ⌜ at + rowCell ≤ length (now rows) ⌝ }
+    ensures { λ r. ⌜ r ≡ rowFrom (now (rows .entry)) at ⌝ }
+{
+    Row {
+        listing: listing_at(rows, at),
         summary: summary_at(rows, at),
         reported: reported_at(rows, at),
     }
@@ -110,8 +127,10 @@ fn no_row() -> Row
     ensures { λ r. ⌜ r ≡ noRow ⌝ }
 {
     Row {
-        symbol: [0u8; 8],
-        close: 0,
+        listing: Listing {
+            symbol: [0u8; 8],
+            close: 0,
+        },
         summary: Summary::NoSummary,
         reported: Reported::NotSet,
     }
@@ -129,14 +148,15 @@ pub fn get(rows: &[u8], i: usize) -> Row
 }
 
 // Stores a new row, without J and with nothing reported, as row i of the room, where the room has such a row.
-pub fn put(rows: &mut [u8], i: usize, symbol: [u8; 8], close: u32)
-    ensures { λ _. ⌜ now (rows .exit) ≡ withRow (now (rows .entry)) i symbol close ⌝ }
+pub fn put(rows: &mut [u8], i: usize, l: Listing)
+    ensures { λ _. ⌜ now (rows .exit) ≡ withRow (now (rows .entry)) i l ⌝ }
 {
     if i < limit(rows.len()) {
         let at = i * CELL;
-        let rest = [0u8; 18];
+        let symbol = l.symbol;
+        let rest = [0u8; CELL - SUMMARY];
         octets::run::paste(rows, at, &symbol);
-        numbers::put4(rows, at + CLOSE, close);
+        numbers::put4(rows, at + CLOSE, l.close);
         octets::run::paste(rows, at + SUMMARY, &rest);
     }
 }

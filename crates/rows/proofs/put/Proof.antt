@@ -4,14 +4,12 @@ use mathlib.Core.Path.{_≡_, sym, _∙_}
 use Prim.Native.Nat.{_*_}
 use lib.ListN.{length}
 use Rattle.cells.proofs.Laws.{inside, outside}
-use Rattle.rows.proofs.Laws.{row-stored}
+use Rattle.rows.specs.Cell.{rowCell}
 use Rattle.rows.specs.Rows.{inRow}
+use Rattle.rows.proofs.Laws.{row-stored}
 use borrow.Author.Needs.{needs}
 use Rattle.rows.proofs.put.Statement.{statement}
 use Rattle.rows.proofs.put.Tie as tie
-
-symbol-long : (s : tie.Start) → length (s .args .t3) ≡ 8
-symbol-long s = search needs
 
 limit-requires : tie.Need-limit-requires
 limit-requires c κs = search needs
@@ -43,13 +41,20 @@ paste-requires-2 c κs = search needs
 same-length : tie.Need-same-length
 same-length c = search needs
 
+symbol-long : (s : tie.Start) → length (s .args .l .symbol) ≡ 8
+symbol-long s = search needs
+
 returns : tie.Need-returns
 unfolding inRow
 returns c =
-    let s = c .before .before .before .before .before .before .before .before .before .before .before .before .before .before .before .before .before in
+    let ended = c .before .before in
+    let closed = ended .before .before .before .before .before in
+    let named = closed .before .before .before .before in
+    let begun = named .before .before .before .before in
+    let s = begun .before .before .before in
     let a = s .args in
-    row-stored (a .rows .now) _ _ _ (a .i * 30) (a .t3) (a .close) (symbol-long s) (c .before .before .before .before .before .before .before .before .before .before .before .paste .ensures) (c .before .before .before .before .before .before .before .put4 .ensures) (c .before .before .paste2 .ensures)
-    ∙ sym (inside _ _ _ _ _ (c .before .before .before .before .before .before .before .before .before .before .before .before .before .before .before .limit .ensures) (c .before .before .before .before .before .before .before .before .before .before .before .before .before .before .if1 .taken))
+    row-stored (a .rows .now) _ _ _ (a .i * rowCell) (a .l) (symbol-long s) (named .paste .ensures) (closed .put4 .ensures) (ended .paste2 .ensures)
+    ∙ sym (inside _ _ _ _ _ (begun .before .limit .ensures) (begun .if1 .taken))
 
 returns-2 : tie.Need-returns-2
 unfolding inRow
