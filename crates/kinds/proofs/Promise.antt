@@ -1,11 +1,15 @@
 -- The contract leaves one possible answer; and each type has its own letter.
 -- Assumes nothing.
+use mathlib.Core.Bool.{Bool}
 use mathlib.Core.Path.{_≡_, refl, sym, _∙_}
 use Prim.Native.Nat.{ℕ}
 use Rattle.kinds.specs.declared.Kind.{Kind}
 use Rattle.kinds.specs.declared.Kind.the-variants.{Event, Trade, Cancel, Correction, Summary, Other}
 use Rattle.kinds.specs.Kinds.{letterOf, kindOf}
 use Rattle.kinds.proofs.kind_of.Reads as kind-of-reads
+use Rattle.kinds.proofs.is_event.Reads as is-event-reads
+use Rattle.kinds.proofs.names_old.Reads as names-old-reads
+use Rattle.kinds.proofs.makes_new.Reads as makes-new-reads
 
 pub kind-of-one : (letter letter₁ letter₂ : ℕ) (k k′ : Kind)
     → kind-of-reads.Learnt tt (letter, tt) k (letter₁, tt) → kind-of-reads.Learnt tt (letter, tt) k′ (letter₂, tt) → k ≡ k′
@@ -20,3 +24,13 @@ kind-again Cancel = refl
 kind-again Correction = refl
 kind-again Summary = refl
 kind-again Other = refl
+
+module _ (kind kind₁ kind₂ : Kind) (b b′ : Bool) where
+  pub is-event-one : is-event-reads.Learnt tt (kind, tt) b (kind₁, tt) → is-event-reads.Learnt tt (kind, tt) b′ (kind₂, tt) → b ≡ b′
+  is-event-one h h′ = h ∙ sym h′
+
+  pub names-old-one : names-old-reads.Learnt tt (kind, tt) b (kind₁, tt) → names-old-reads.Learnt tt (kind, tt) b′ (kind₂, tt) → b ≡ b′
+  names-old-one h h′ = h ∙ sym h′
+
+  pub makes-new-one : makes-new-reads.Learnt tt (kind, tt) b (kind₁, tt) → makes-new-reads.Learnt tt (kind, tt) b′ (kind₂, tt) → b ≡ b′
+  makes-new-one h h′ = h ∙ sym h′

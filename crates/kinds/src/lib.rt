@@ -1,6 +1,6 @@
 // A message's type. Its letter is asked here and nowhere else; whoever goes by the type goes by its `Kind`.
 ghost use mathlib.Core.Path.{_≡_};
-ghost use Rattle.kinds.specs.Kinds.{kindOf};
+ghost use Rattle.kinds.specs.Kinds.{kindOf, isEvent, namesOld, makesNew};
 
 pub enum Kind {
     // S, system event.
@@ -28,5 +28,47 @@ pub fn kind_of(letter: u8) -> Kind
         b'C' => Kind::Correction,
         b'J' => Kind::Summary,
         _ => Kind::Other,
+    }
+}
+
+// Whether it is an event, S.
+pub fn is_event(kind: Kind) -> bool
+    ensures { λ r. ⌜ r ≡ isEvent kind ⌝ }
+{
+    match kind {
+        Kind::Event => true,
+        Kind::Trade => false,
+        Kind::Cancel => false,
+        Kind::Correction => false,
+        Kind::Summary => false,
+        Kind::Other => false,
+    }
+}
+
+// Whether it names an original: X and C do.
+pub fn names_old(kind: Kind) -> bool
+    ensures { λ r. ⌜ r ≡ namesOld kind ⌝ }
+{
+    match kind {
+        Kind::Event => false,
+        Kind::Trade => false,
+        Kind::Cancel => true,
+        Kind::Correction => true,
+        Kind::Summary => false,
+        Kind::Other => false,
+    }
+}
+
+// Whether it makes a new line: T and C do.
+pub fn makes_new(kind: Kind) -> bool
+    ensures { λ r. ⌜ r ≡ makesNew kind ⌝ }
+{
+    match kind {
+        Kind::Event => false,
+        Kind::Trade => true,
+        Kind::Cancel => false,
+        Kind::Correction => true,
+        Kind::Summary => false,
+        Kind::Other => false,
     }
 }

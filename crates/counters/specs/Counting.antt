@@ -1,0 +1,60 @@
+-- The wanted number, the phase and the counts, which move together as one value; when a book is sound.
+-- Assumes nothing.
+use Prim.Native.Nat.{ℕ, _-_, _<_}
+use mathlib.Core.Logic.{_⊎_}
+use mathlib.Core.Bool.{Bool, cond, _&&_}
+use lib.Dec.{leb}
+use Rattle.numbers.specs.Up.{up}
+use Rattle.kinds.specs.declared.Kind.{Kind}
+use Rattle.kinds.specs.Kinds.{isEvent, makesNew}
+use Rattle.lines.specs.Lines.{lineLimit}
+use Rattle.rows.specs.Rows.{rowLimit}
+use Rattle.counters.specs.Phases.{phaseOf, lastPhase}
+use Rattle.counters.specs.declared.Counters.{Counters}
+
+-- the greatest number that a message may bear
+abbrev pub lastNumber : ℕ
+lastNumber = 4294967295
+
+-- what a book starts from: it wants 1 and has no phase, rows, lines or taken messages
+abbrev pub freshCounters : Counters
+freshCounters = record { wanted = 1; phase = 0; rows = 0; lines = 0; taken = 0 }
+
+-- ---- each move; `up` is one more, which in a sound book always fits
+
+-- used up: wanted number up by one, all else equal
+abbrev pub usedUp : Counters → Counters
+usedUp c = record { wanted = up (c .wanted); phase = c .phase; rows = c .rows; lines = c .lines; taken = c .taken }
+
+abbrev pub advanced : ℕ → Counters → Counters
+advanced phase c = record { wanted = c .wanted; phase = phase; rows = c .rows; lines = c .lines; taken = c .taken }
+
+abbrev pub countedTaken : Counters → Counters
+countedTaken c = record { wanted = c .wanted; phase = c .phase; rows = c .rows; lines = c .lines; taken = up (c .taken) }
+
+abbrev pub oneRowMore : Counters → Counters
+oneRowMore c = record { wanted = c .wanted; phase = c .phase; rows = up (c .rows); lines = c .lines; taken = c .taken }
+
+abbrev pub oneLineMore : Counters → Counters
+oneLineMore c = record { wanted = c .wanted; phase = c .phase; rows = c .rows; lines = up (c .lines); taken = c .taken }
+
+-- a message of a type taken: its number used up and it counted; an event begins its phase, and T and C use a line
+unfoldable pub takenBy : Kind → ℕ → Counters → Counters
+takenBy kind event c =
+    let moved = countedTaken (usedUp c) in
+    cond (isEvent kind) (advanced (phaseOf event) moved) (cond (makesNew kind) (oneLineMore moved) moved)
+
+-- ---- soundness, for room of that many bytes for rows and for lines
+
+-- the faults of a book, one by one: the wanted number outside 1 to 4,294,967,296, too many rows, too many lines, a phase that is
+-- none of the seven, more messages taken than numbers used up
+abbrev pub Unsound : Counters → ℕ → ℕ → Type 0
+Unsound c rows lines =
+    ((c .wanted < 1) ⊎ (4294967296 < c .wanted))
+    ⊎ ((rowLimit rows < c .rows) ⊎ ((lineLimit lines < c .lines) ⊎ ((lastPhase < c .phase) ⊎ (c .wanted - 1 < c .taken))))
+
+-- the same, as a test
+unfoldable pub sound : Counters → ℕ → ℕ → Bool
+sound c rows lines =
+    leb 1 (c .wanted) && leb (c .wanted) 4294967296 && leb (c .rows) (rowLimit rows) && leb (c .lines) (lineLimit lines)
+    && leb (c .phase) lastPhase && leb (c .taken) (c .wanted - 1)

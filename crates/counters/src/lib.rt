@@ -1,0 +1,119 @@
+// The counters of a book: what moves together as one value. Each move returns the new value; whatever counters arrive, it is total.
+use kinds::Kind;
+use kinds::is_event;
+use kinds::makes_new;
+use numbers::up;
+ghost use mathlib.Core.Path.{_≡_};
+ghost use Rattle.counters.specs.Counting as Counting;
+ghost use Rattle.counters.specs.Phases as Phases;
+
+// The wanted number, the phase, and the counts: rows used, lines used, messages taken. The phase is 0 before any event was taken, then
+// 1 to 6 for O S Q M E C.
+pub struct Counters {
+    pub wanted: u64,
+    pub phase: u64,
+    pub rows: usize,
+    pub lines: usize,
+    pub taken: u64,
+}
+
+// The greatest number that a message may bear.
+pub const LAST_NUMBER: u64 = 4294967295;
+
+// The phase that event C, the last, begins.
+const LAST_PHASE: u64 = 6;
+
+// The phase that an event begins: 1 to 6 for O S Q M E C, 0 for any other byte.
+pub fn phase_of(event: u8) -> u64
+    ensures { λ p. ⌜ p ≡ Phases.phaseOf event ⌝ }
+{
+    match event {
+        b'O' => 1,
+        b'S' => 2,
+        b'Q' => 3,
+        b'M' => 4,
+        b'E' => 5,
+        b'C' => 6,
+        _ => 0,
+    }
+}
+
+// Whether a message of a type is due: an event that comes later than the last one taken, any other between the first event and C.
+pub fn is_due(phase: u64, kind: Kind, event: u8) -> bool
+    ensures { λ r. ⌜ r ≡ Phases.due phase kind event ⌝ }
+{
+    if is_event(kind) {
+        return phase < phase_of(event);
+    }
+    (0 < phase) & (phase < LAST_PHASE)
+}
+
+impl Counters {
+    // A number used up, all else equal.
+    pub fn use_up(mut self) -> Counters
+        ensures { λ r. ⌜ r ≡ Counting.usedUp self ⌝ }
+    {
+        self.wanted = up(self.wanted);
+        self
+    }
+
+    // An event taken: its phase begins.
+    pub fn advance(mut self, phase: u64) -> Counters
+        ensures { λ r. ⌜ r ≡ Counting.advanced phase self ⌝ }
+    {
+        self.phase = phase;
+        self
+    }
+
+    // One more message taken.
+    pub fn count_taken(mut self) -> Counters
+        ensures { λ r. ⌜ r ≡ Counting.countedTaken self ⌝ }
+    {
+        self.taken = up(self.taken);
+        self
+    }
+
+    // One more row used.
+    pub fn add_row(mut self) -> Counters
+        ensures { λ r. ⌜ r ≡ Counting.oneRowMore self ⌝ }
+    {
+        self.rows = up(self.rows as u64) as usize;
+        self
+    }
+
+    // One more line used.
+    pub fn add_line(mut self) -> Counters
+        ensures { λ r. ⌜ r ≡ Counting.oneLineMore self ⌝ }
+    {
+        self.lines = up(self.lines as u64) as usize;
+        self
+    }
+
+    // A message taken: its number used up and it counted; an event begins its phase, and T and C use a line.
+    pub fn take(self, kind: Kind, event: u8) -> Counters
+        ensures { λ o. ⌜ o ≡ Counting.takenBy kind event self ⌝ }
+    {
+        let moved = self.use_up().count_taken();
+        if is_event(kind) {
+            return moved.advance(phase_of(event));
+        }
+        if makes_new(kind) {
+            return moved.add_line();
+        }
+        moved
+    }
+
+    // Whether the counters are sound for rooms of that many bytes.
+    pub fn is_sound(self, rows: usize, lines: usize) -> bool
+        ensures { λ r. ⌜ r ≡ Counting.sound self rows lines ⌝ }
+    {
+        if self.wanted < 1 {
+            return false;
+        }
+        (self.wanted <= LAST_NUMBER + 1)
+            & (self.rows <= rows::limit(rows))
+            & (self.lines <= lines::limit(lines))
+            & (self.phase <= LAST_PHASE)
+            & (self.taken <= self.wanted - 1)
+    }
+}
