@@ -12,7 +12,7 @@ use Rattle.octets.proofs.Laws.{sets-all}
 use Rattle.octets.proofs.Trips.{whole}
 use Rattle.records.specs.declared.Record.{Record}
 use Rattle.lines.specs.declared.Line.{Line}
-use Rattle.keys.specs.Messages.{matches}
+use Rattle.keys.specs.Keys.{matches}
 
 -- ---- keys
 

@@ -1,27 +1,15 @@
-// What the book asks of a message that was read: its keys, the phase that an event begins, whether a line is what it names.
+// The keys of a message's trades, and whether a line is the trade that a message names.
+use kinds::Kind;
+use kinds::is_correction;
 use lines::Line;
 use octets::run;
 use records::Record;
 use records::Sale;
 ghost use mathlib.Core.Path.{_≡_};
 ghost use mathlib.Core.List.{_∷_};
-ghost use Rattle.keys.specs.Messages as Messages;
+ghost use Rattle.keys.specs.Keys as Keys;
 
-// The phase that an event begins: 1 to 6 for O S Q M E C.
-pub fn phase_of(event: u8) -> u64
-    ensures { λ p. ⌜ p ≡ Messages.phaseOf event ⌝ }
-{
-    match event {
-        b'O' => 1,
-        b'S' => 2,
-        b'Q' => 3,
-        b'M' => 4,
-        b'E' => 5,
-        b'C' => 6,
-        _ => 0,
-    }
-}
-
+// The key of a trade: the centre and the control.
 fn key_of(centre: u8, control: [u8; 10]) -> [u8; 11]
     ensures { λ r. ⌜ r ≡ centre ∷ control ⌝ }
 {
@@ -31,33 +19,34 @@ fn key_of(centre: u8, control: [u8; 10]) -> [u8; 11]
     key
 }
 
-// The key of the original that X and C name, and of T's trade.
+// The key of the original that X and C name, and of T's own trade.
 pub fn old_key(r: Record) -> [u8; 11]
-    ensures { λ k. ⌜ k ≡ Messages.oldKey r ⌝ }
+    ensures { λ k. ⌜ k ≡ Keys.oldKey r ⌝ }
 {
     let original = r.sale;
     let control = original.control;
     key_of(r.centre, control)
 }
 
-fn new_sale(r: Record) -> Sale
-    ensures { λ s. ⌜ s ≡ Messages.newSale r ⌝ }
+// What T and C put in.
+fn new_sale(kind: Kind, r: Record) -> Sale
+    ensures { λ s. ⌜ s ≡ Keys.newSale kind r ⌝ }
 {
-    if r.letter == b'C' { r.new } else { r.sale }
+    if is_correction(kind) { r.new } else { r.sale }
 }
 
 // The key of the line that T and C make.
-pub fn new_key(r: Record) -> [u8; 11]
-    ensures { λ k. ⌜ k ≡ Messages.newKey r ⌝ }
+pub fn new_key(kind: Kind, r: Record) -> [u8; 11]
+    ensures { λ k. ⌜ k ≡ Keys.newKey kind r ⌝ }
 {
-    let sale = new_sale(r);
+    let sale = new_sale(kind, r);
     let control = sale.control;
     key_of(r.centre, control)
 }
 
 // Whether the line is the trade that the message names.
 pub fn is_match(r: Record, l: Line) -> bool
-    ensures { λ b. ⌜ b ≡ Messages.matches r l ⌝ }
+    ensures { λ b. ⌜ b ≡ Keys.matches r l ⌝ }
 {
     let sale = r.sale;
     let symbol = r.symbol;

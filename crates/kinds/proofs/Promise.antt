@@ -8,6 +8,7 @@ use Rattle.kinds.specs.declared.Kind.the-variants.{Event, Trade, Cancel,
 use Rattle.kinds.specs.Kinds.{letterOf, kindOf}
 use Rattle.kinds.proofs.kind_of.Reads as kind-of-reads
 use Rattle.kinds.proofs.is_event.Reads as is-event-reads
+use Rattle.kinds.proofs.is_correction.Reads as is-correction-reads
 use Rattle.kinds.proofs.names_old.Reads as names-old-reads
 use Rattle.kinds.proofs.makes_new.Reads as makes-new-reads
 
@@ -34,3 +35,6 @@ module _ (kind kind₁ kind₂ : Kind) (b b′ : Bool) where
 
   pub makes-new-one : makes-new-reads.Learnt tt (kind, tt) b (kind₁, tt) → makes-new-reads.Learnt tt (kind, tt) b′ (kind₂, tt) → b ≡ b′
   makes-new-one h h′ = h ∙ sym h′
+
+  pub is-correction-one : is-correction-reads.Learnt tt (kind, tt) b (kind₁, tt) → is-correction-reads.Learnt tt (kind, tt) b′ (kind₂, tt) → b ≡ b′
+  is-correction-one h h′ = h ∙ sym h′

@@ -1,6 +1,6 @@
 // A message's type. Its letter is asked here and nowhere else; whoever goes by the type goes by its `Kind`.
 ghost use mathlib.Core.Path.{_≡_};
-ghost use Rattle.kinds.specs.Kinds.{kindOf, isEvent, namesOld, makesNew};
+ghost use Rattle.kinds.specs.Kinds.{kindOf, isEvent, isCorrection, namesOld, makesNew};
 
 pub enum Kind {
     // S, system event.
@@ -40,6 +40,20 @@ pub fn is_event(kind: Kind) -> bool
         Kind::Trade => false,
         Kind::Cancel => false,
         Kind::Correction => false,
+        Kind::Summary => false,
+        Kind::Other => false,
+    }
+}
+
+// Whether it is a correction, C.
+pub fn is_correction(kind: Kind) -> bool
+    ensures { λ r. ⌜ r ≡ isCorrection kind ⌝ }
+{
+    match kind {
+        Kind::Event => false,
+        Kind::Trade => false,
+        Kind::Cancel => false,
+        Kind::Correction => true,
         Kind::Summary => false,
         Kind::Other => false,
     }

@@ -2,14 +2,16 @@
 -- Assumes nothing.
 use Prim.Native.Nat.{ℕ}
 use mathlib.Core.List.{List}
-use mathlib.Core.Bool.{true, cond}
+use mathlib.Core.Bool.{true}
 use Rattle.records.specs.declared.Record.{Record}
 use Rattle.cells.specs.declared.Found.{Found}
 use Rattle.cells.specs.declared.Found.the-variants.{Nothing, At}
 use Rattle.lines.specs.declared.Line.{Line}
 use Rattle.lines.specs.Lines.{lineIn, withLine, withDead}
 use Rattle.rows.specs.Rows.{withReport, withSummary}
-use Rattle.keys.specs.Messages.{isEvent, isTrade, isCancel, isCorrection, isSummary, oldKey, newKey}
+use Rattle.kinds.specs.declared.Kind.{Kind}
+use Rattle.kinds.specs.declared.Kind.the-variants.{Event, Trade, Cancel, Correction, Summary, Other}
+use Rattle.keys.specs.Keys.{oldKey, newKey}
 
 -- ---- lines
 
@@ -31,7 +33,7 @@ madeLine n r =
 abbrev pub correctedLine : Line → Record → Line
 correctedLine old r =
     record {
-      key = newKey r;
+      key = newKey Correction r;
       symbol = r .symbol;
       price = r .new .price;
       size = r .new .size;
@@ -41,25 +43,39 @@ correctedLine old r =
       live = true;
     }
 
--- the lent lines after message n; line k is the one that X and C name
-unfoldable pub linesBy : List ℕ → ℕ → ℕ → Record → ℕ → List ℕ
-linesBy m used n r k =
-    -- T adds a live line
-    cond (isTrade r) (withLine m used (madeLine n r))
-    -- X makes the named line dead
-    (cond (isCancel r) (withDead m k)
-    -- C makes the named line dead and adds a live one
-    (cond (isCorrection r) (withLine (withDead m k) used (correctedLine (lineIn m k) r)) m))
+-- C makes the named line dead and adds a live one
+abbrev pub corrected : List ℕ → ℕ → Record → ℕ → List ℕ
+corrected m used r k = withLine (withDead m k) used (correctedLine (lineIn m k) r)
+
+-- the lent lines after message n of a type; line k is the one that X and C name
+unfoldable pub linesBy : Kind → List ℕ → ℕ → ℕ → Record → ℕ → List ℕ
+linesBy Event m used n r k = m
+-- T adds a live line
+linesBy Trade m used n r k = withLine m used (madeLine n r)
+-- X makes the named line dead
+linesBy Cancel m used n r k = withDead m k
+linesBy Correction m used n r k = corrected m used r k
+linesBy Summary m used n r k = m
+linesBy Other m used n r k = m
 
 -- ---- rows
 
--- the lent rows after the message; row i is the first of its symbol
-unfoldable pub rowsBy : List ℕ → Record → ℕ → List ℕ
-rowsBy m r i =
-    cond (isEvent r) m
-    -- J keeps its high and low in the row; T, X, C and J set the reported volume
-    (cond (isSummary r) (withReport (withSummary m i (r .high) (r .low)) i (r .consolidated))
-    (withReport m i (r .consolidated)))
+-- T, X, C and J set the reported volume
+abbrev pub reported : List ℕ → Record → ℕ → List ℕ
+reported m r i = withReport m i (r .consolidated)
+
+-- J keeps its high and low in the row
+abbrev pub summarised : List ℕ → Record → ℕ → List ℕ
+summarised m r i = reported (withSummary m i (r .high) (r .low)) r i
+
+-- the lent rows after a message of a type; row i is the first of its symbol
+unfoldable pub rowsBy : Kind → List ℕ → Record → ℕ → List ℕ
+rowsBy Event m r i = m
+rowsBy Trade m r i = reported m r i
+rowsBy Cancel m r i = reported m r i
+rowsBy Correction m r i = reported m r i
+rowsBy Summary m r i = summarised m r i
+rowsBy Other m r i = m
 
 -- the number of the cell where a search ended; 0 where nothing was found, which no taken message asks for
 abbrev pub indexOf : Found → ℕ

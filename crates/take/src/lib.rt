@@ -1,6 +1,7 @@
 // What a taken message does to the lent bytes.
 use keys::new_key;
 use keys::old_key;
+use kinds::Kind;
 use lines::Line;
 use records::Record;
 ghost use mathlib.Core.Path.{_≡_};
@@ -33,7 +34,7 @@ fn corrected_line(old: Line, r: Record) -> Line
     let symbol = r.symbol;
     let condition = sale.condition;
     Line {
-        key: new_key(r),
+        key: new_key(Kind::Correction, r),
         symbol: symbol,
         price: sale.price,
         size: sale.size,
@@ -44,36 +45,47 @@ fn corrected_line(old: Line, r: Record) -> Line
     }
 }
 
-// T adds a live line, X kills the named one, C does both.
-pub fn take_lines(lines: &mut [u8], used: usize, n: u32, r: Record, k: usize)
-    ensures { λ _. ⌜ now (lines .exit) ≡ Taking.linesBy (now (lines .entry)) used n r k ⌝ }
+// Kills line k and adds what replaces it.
+fn correct(lines: &mut [u8], used: usize, r: Record, k: usize)
+    ensures { λ _. ⌜ now (lines .exit) ≡ Taking.corrected (now (lines .entry)) used r k ⌝ }
 {
-    if r.letter == b'T' {
-        lines::put(lines, used, made_line(n, r));
-        return;
-    }
-    if r.letter == b'X' {
-        lines::kill(lines, k);
-        return;
-    }
-    if r.letter == b'C' {
-        let old = lines::get(lines, k);
-        lines::kill(lines, k);
-        lines::put(lines, used, corrected_line(old, r));
+    let old = lines::get(lines, k);
+    lines::kill(lines, k);
+    lines::put(lines, used, corrected_line(old, r));
+}
+
+// The lines after message n: T adds a live line, X kills line k, which it names, and C does both.
+pub fn take_lines(lines: &mut [u8], used: usize, n: u32, kind: Kind, r: Record, k: usize)
+    ensures { λ _. ⌜ now (lines .exit) ≡ Taking.linesBy kind (now (lines .entry)) used n r k ⌝ }
+{
+    match kind {
+        Kind::Event => {}
+        Kind::Trade => lines::put(lines, used, made_line(n, r)),
+        Kind::Cancel => lines::kill(lines, k),
+        Kind::Correction => correct(lines, used, r, k),
+        Kind::Summary => {}
+        Kind::Other => {}
     }
 }
 
-// J keeps its high and low; all but S set the reported volume.
-pub fn take_rows(rows: &mut [u8], r: Record, i: usize)
-    ensures { λ _. ⌜ now (rows .exit) ≡ Taking.rowsBy (now (rows .entry)) r i ⌝ }
+// Keeps a J's high and low and its volume.
+fn summarise(rows: &mut [u8], r: Record, i: usize)
+    ensures { λ _. ⌜ now (rows .exit) ≡ Taking.summarised (now (rows .entry)) r i ⌝ }
 {
-    if r.letter == b'S' {
-        return;
-    }
-    if r.letter == b'J' {
-        rows::summarise(rows, i, r.high, r.low);
-        rows::report(rows, i, r.consolidated);
-        return;
-    }
+    rows::summarise(rows, i, r.high, r.low);
     rows::report(rows, i, r.consolidated);
+}
+
+// The rows after a message: T, X, C and J set the reported volume of row i, which is their symbol's; J keeps its high and low there.
+pub fn take_rows(rows: &mut [u8], kind: Kind, r: Record, i: usize)
+    ensures { λ _. ⌜ now (rows .exit) ≡ Taking.rowsBy kind (now (rows .entry)) r i ⌝ }
+{
+    match kind {
+        Kind::Event => {}
+        Kind::Trade => rows::report(rows, i, r.consolidated),
+        Kind::Cancel => rows::report(rows, i, r.consolidated),
+        Kind::Correction => rows::report(rows, i, r.consolidated),
+        Kind::Summary => summarise(rows, r, i),
+        Kind::Other => {}
+    }
 }

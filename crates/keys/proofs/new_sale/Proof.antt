@@ -1,14 +1,23 @@
 -- `keys::new_sale` meets its contract.
 -- Assumes nothing.
-use borrow.Author.Tests.{eq-eqb, ne-eqb}
+use mathlib.Core.Path.{sym, _∙_}
+use borrow.Author.Needs.{needs}
 use Rattle.keys.proofs.new_sale.Statement.{statement}
 use Rattle.keys.proofs.new_sale.Tie as tie
 
+is-correction-requires : tie.Need-is-correction-requires
+is-correction-requires c κs = search needs
+
 returns : tie.Need-returns
-returns c = simp (eq-eqb _ _ (c .before .if1 .taken))
+returns c = simp (sym (c .before .before .is-correction .ensures) ∙ c .before .if1 .taken)
 
 returns-2 : tie.Need-returns-2
-returns-2 c = simp (ne-eqb _ _ (c .before .if1 .left))
+returns-2 c = simp (sym (c .before .before .is-correction .ensures) ∙ c .before .if1 .left)
 
 pub new-sale-spec : {M : Type 1} → statement M
-new-sale-spec = tie.close (tie.spec returns returns-2)
+new-sale-spec =
+    tie.close
+    (tie.spec
+    is-correction-requires
+    returns
+    returns-2)
