@@ -1,4 +1,4 @@
-pub mod Sound
 pub mod Demand1
+pub mod Touches
 pub mod Steps
 pub mod Promise

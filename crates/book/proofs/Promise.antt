@@ -1,12 +1,19 @@
--- Each public function's contract leaves one possible answer and one possible content for each lent byte. `Learnt` is
+-- The arguments of each call by name, and that each public function's contract leaves one possible answer and one possible content for
+-- each lent byte. `Learnt` is
 -- that contract as the compiler hands it to a caller: of the arguments, of the result, and of the arguments again as
 -- the call returns.
 -- Assumes nothing.
-use mathlib.Core.Path.{_≡_, refl, sym, _∙_}
-use Rattle.book.specs.declared.counters.Counters.{Counters}
+use mathlib.Core.Path.{_≡_, refl, ap, sym, _∙_}
+use mathlib.Core.List.{List}
+use Prim.Native.Nat.{ℕ}
+use Rattle.counters.specs.declared.Counters.{Counters}
 use Rattle.book.specs.declared.Said.{Said}
 use Rattle.book.specs.declared.Shown.{Shown}
-use Rattle.book.specs.Calls.{listSaid, listRows, deliverSaid, deliverRows, deliverLines, rowShown}
+use Rattle.answers.specs.declared.Answer.{Answer}
+use Rattle.answers.proofs.Promise.{one-number-each}
+use Rattle.rows.specs.declared.Listing.{Listing}
+use Rattle.book.specs.State.{State, lent, Outcome, leaving, Arrival, arrives}
+use Rattle.book.specs.Calls.{listed, delivered, shown}
 use contract.Lifetimes.{Lfts}
 use borrow.Fn.World.{ArgsD}
 use borrow.Fn.Kinds.{endedOf}
@@ -26,32 +33,76 @@ use Rattle.book.proofs.row.Kinds as row-kinds
 pub fresh-one : (r r′ : Counters) → fresh-reads.Learnt tt tt r tt → fresh-reads.Learnt tt tt r′ tt → r ≡ r′
 fresh-one r r′ h h′ = h ∙ sym h′
 
+-- two calls that come to one outcome told the same
+said-same : (r r′ : Said) (rows lines rows′ lines′ : List ℕ) (o : Outcome) → leaving r rows lines ≡ o → leaving r′ rows′ lines′ ≡ o → r ≡ r′
+said-same r r′ rows lines rows′ lines′ o h h′ =
+    let e = h ∙ sym h′ in
+    let a = one-number-each (r .answer) (r′ .answer) (ap (λ (x : Outcome). x .answer) e) in
+    let c : r .counters ≡ r′ .counters = ap (λ (x : Outcome). x .state .counters) e in
+    same (r .answer) (r .counters) a c
+  where
+    same : (a : Answer) (c : Counters) → a ≡ r′ .answer → c ≡ r′ .counters → record { answer = a; counters = c } ≡ r′
+    same a c e f = rw (e, f)
+
+-- ---- a listing
+
 module _ (κs : Lfts 2) (a : ArgsD list.signature κs) where
+  -- what the call is lent, and what it is given
+  abbrev pub listFrom : State
+  listFrom = lent (a .0) (now (a .1 .0)) (now (a .1 .1 .0))
+
+  abbrev pub listGiven : Listing
+  listGiven = a .1 .1 .1 .0
+
+  -- what it leaves
+  abbrev pub listLeft : Said → AtExit (endedOf 2 list-kinds.ps list-kinds.r) κs → Outcome
+  listLeft r s = leaving r (now (s .1 .0)) (now (a .1 .1 .0))
+
   pub list-one : (r r′ : Said) (s s′ : AtExit (endedOf 2 list-kinds.ps list-kinds.r) κs)
       → list-reads.Learnt κs a r s → list-reads.Learnt κs a r′ s′ → (r ≡ r′) × (now (s .1 .0) ≡ now (s′ .1 .0))
-  list-one r r′ s s′ h h′ = (h .0 ∙ sym (h′ .0), h .1 ∙ sym (h′ .1))
+  list-one r r′ s s′ h h′ = (said-same r r′ _ _ _ _ _ h h′, ap (λ (x : Outcome). x .state .rows) (h ∙ sym h′))
 
   -- what a caller is told, and nothing else
   pub list-says : (r : Said) (s : AtExit (endedOf 2 list-kinds.ps list-kinds.r) κs)
-      → list-reads.Learnt κs a r s ≡ ((r ≡ listSaid (a .0) (now (a .1 .0)) (now (a .1 .1 .0)) (a .1 .1 .1 .0) (a .1 .1 .1 .1 .0)) × (now (s .1 .0) ≡ listRows (a .0) (now (a .1 .0)) (now (a .1 .1 .0)) (a .1 .1 .1 .0) (a .1 .1 .1 .1 .0)))
+      → list-reads.Learnt κs a r s ≡ (listLeft r s ≡ listed listFrom listGiven)
   list-says r s = refl
 
+-- ---- a delivery
+
 module _ (κs : Lfts 3) (a : ArgsD deliver.signature κs) where
+  abbrev pub deliverFrom : State
+  deliverFrom = lent (a .0) (now (a .1 .0)) (now (a .1 .1 .0))
+
+  abbrev pub deliverGiven : Arrival
+  deliverGiven = arrives (a .1 .1 .1 .0) (now (a .1 .1 .1 .1 .0))
+
+  abbrev pub deliverLeft : Said → AtExit (endedOf 3 deliver-kinds.ps deliver-kinds.r) κs → Outcome
+  deliverLeft r s = leaving r (now (s .1 .0)) (now (s .1 .1 .0))
+
   pub deliver-one : (r r′ : Said) (s s′ : AtExit (endedOf 3 deliver-kinds.ps deliver-kinds.r) κs)
-      → deliver-reads.Learnt κs a r s → deliver-reads.Learnt κs a r′ s′ → (r ≡ r′) × (now (s .1 .0) ≡ now (s′ .1 .0)) × (now (s .1 .1 .0) ≡ now (s′ .1 .1 .0))
-  deliver-one r r′ s s′ h h′ = (h .0 ∙ sym (h′ .0), h .1 .0 ∙ sym (h′ .1 .0), h .1 .1 ∙ sym (h′ .1 .1))
+      → deliver-reads.Learnt κs a r s → deliver-reads.Learnt κs a r′ s′
+      → (r ≡ r′) × (now (s .1 .0) ≡ now (s′ .1 .0)) × (now (s .1 .1 .0) ≡ now (s′ .1 .1 .0))
+  deliver-one r r′ s s′ h h′ =
+      (said-same r r′ _ _ _ _ _ h h′, ap (λ (x : Outcome). x .state .rows) (h ∙ sym h′), ap (λ (x : Outcome). x .state .lines) (h ∙ sym h′))
 
   -- what a caller is told, and nothing else
   pub deliver-says : (r : Said) (s : AtExit (endedOf 3 deliver-kinds.ps deliver-kinds.r) κs)
-      → deliver-reads.Learnt κs a r s ≡ ((r ≡ deliverSaid (a .0) (now (a .1 .0)) (now (a .1 .1 .0)) (a .1 .1 .1 .0) (now (a .1 .1 .1 .1 .0))) × ((now (s .1 .0) ≡ deliverRows (a .0) (now (a .1 .0)) (now (a .1 .1 .0)) (a .1 .1 .1 .0) (now (a .1 .1 .1 .1 .0))) × (now (s .1 .1 .0) ≡ deliverLines (a .0) (now (a .1 .0)) (now (a .1 .1 .0)) (a .1 .1 .1 .0) (now (a .1 .1 .1 .1 .0)))))
+      → deliver-reads.Learnt κs a r s ≡ (deliverLeft r s ≡ delivered deliverFrom deliverGiven)
   deliver-says r s = refl
 
+-- ---- a row's reading
+
 module _ (κs : Lfts 2) (a : ArgsD row.signature κs) where
+  abbrev pub rowFrom : State
+  rowFrom = lent (a .0) (now (a .1 .0)) (now (a .1 .1 .0))
+
+  abbrev pub rowGiven : List ℕ
+  rowGiven = a .1 .1 .1 .0
+
   pub row-one : (r r′ : Shown) (s s′ : AtExit (endedOf 2 row-kinds.ps row-kinds.r) κs)
       → row-reads.Learnt κs a r s → row-reads.Learnt κs a r′ s′ → r ≡ r′
   row-one r r′ s s′ h h′ = h ∙ sym h′
 
   -- what a caller is told, and nothing else
-  pub row-says : (r : Shown) (s : AtExit (endedOf 2 row-kinds.ps row-kinds.r) κs)
-      → row-reads.Learnt κs a r s ≡ (r ≡ rowShown (a .0) (now (a .1 .0)) (now (a .1 .1 .0)) (a .1 .1 .1 .0))
+  pub row-says : (r : Shown) (s : AtExit (endedOf 2 row-kinds.ps row-kinds.r) κs) → row-reads.Learnt κs a r s ≡ (r ≡ shown rowFrom rowGiven)
   row-says r s = refl

@@ -1,43 +1,57 @@
 -- From what each call works out, branch by branch, to what it promises.
 -- Assumes nothing.
 use mathlib.Core.Path.{_≡_, refl, ap, sym, _∙_}
-use mathlib.Core.Bool.{Bool, true, false, cond, not, _&&_, _||_}
+use mathlib.Core.Bool.{Bool, true, false, cond, not, _&&_, _||_, true≢false}
 use mathlib.Core.List.{List}
 use Prim.Native.Nat.{ℕ, _≤_}
 use native.Mathlib.Omega.{arith}
-use borrow.Author.Tests.{eq-eqb, ne-eqb, eqb-true, eqb-false, leb-true, leb-false, lt-ltb, le-ltb}
-use lib.Dec.{eqb, ltb, leb}
+use borrow.Author.Tests.{eq-eqb, ne-eqb, leb-true, leb-false, lt-ltb, le-ltb}
+use lib.Dec.{ltb, leb}
 use lib.ListN.{length}
 use Rattle.texts.specs.Text.{text}
 use Rattle.answers.specs.Answers.{numberOf, answerOf}
+use Rattle.answers.specs.Cases.{Case, given}
+use Rattle.answers.proofs.Cases.{picked, picked-is}
 use Rattle.answers.specs.declared.Answer.{Answer}
 use Rattle.message.specs.declared.Reading.{Reading}
 use Rattle.message.specs.Reading.{readOf}
+use Rattle.records.specs.declared.Record.{Record}
 use Rattle.cells.specs.declared.Found.the-variants.{Nothing, At}
+use Rattle.kinds.specs.declared.Kind.{Kind}
+use Rattle.kinds.specs.declared.Kind.the-variants.{Event, Trade, Cancel, Correction, Summary, Other}
+use Rattle.kinds.specs.Kinds.{isEvent, namesOld}
+use Rattle.rows.specs.declared.Listing.{Listing}
 use Rattle.rows.specs.declared.Row.{Row}
+use Rattle.rows.specs.Rows.{rowLimit, listingOf, rowIn, withRow}
 use Rattle.walk.specs.declared.Figures.{Figures}
-use Rattle.lines.specs.Lines.{usedLines, lineLimit, lineWith}
-use Rattle.rows.specs.Rows.{usedRows, rowLimit, rowWith, rowIn, withRow}
 use Rattle.walk.specs.Figures.{figuresOf}
-use Rattle.book.specs.declared.counters.Counters.{Counters}
-use Rattle.book.specs.declared.Said.{Said}
+use Rattle.counters.specs.declared.Counters.{Counters}
+use Rattle.counters.specs.Counting.{usedUp, oneRowMore, takenBy}
+use Rattle.counters.proofs.Sound.{sound-gives}
+use Rattle.keys.specs.Keys.{kindIn}
+use Rattle.table.specs.declared.Verdict.{Verdict}
+use Rattle.table.specs.Table.{isFound, isListed}
+use Rattle.table.specs.Working.{judgedBy}
+use Rattle.table.proofs.Tables.{rows-full, judged-is, judged-row, judged-line, read-plain, Wanted, number-wanted}
+use Rattle.take.specs.Taking.{linesBy, rowsBy, indexOf}
+use Rattle.show.specs.declared.RowShown.{RowShown}
+use Rattle.show.specs.Showing.{shownOf, nothingShown}
 use Rattle.book.specs.declared.Located.{Located}
 use Rattle.book.specs.declared.Shown.{Shown}
-use Rattle.show.specs.declared.RowShown.{RowShown}
-use Rattle.table.specs.declared.Verdict.{Verdict}
-use Rattle.book.specs.Counting.{usedUp, oneRowMore, takenBy, sound}
-use Rattle.keys.specs.Messages.{isEvent, isCancel, isCorrection, namesOld, oldKey}
-use Rattle.table.specs.Table.{Case, symbolsOf, inBook, isFound, listed, listTable}
-use Rattle.take.specs.Taking.{linesBy, rowsBy, indexOf}
-use Rattle.show.specs.Showing.{shownOf, nothingShown}
-use Rattle.book.specs.Calls.{numberAnswer, located, listAnswer, listSaid, listRows, deliverAnswer, deliverSaid, deliverRows, deliverLines, rowAnswer, rowShown}
-use Rattle.table.specs.Working.{judgedBy}
-use Rattle.book.proofs.Sound.{sound-gives}
-use Rattle.table.proofs.Tables.{listed-found, rows-full, judged-is, judged-row, judged-line, read-plain, neither, Wanted, number-wanted, number-content, number-refused}
-use Rattle.book.proofs.Demand1.{answers-listed, refused-keeps}
+use Rattle.book.specs.State.{State, lent, Outcome, Arrival, arrives, wantedIn, sheetOf, linesIn, basisOf, soundIn}
+use Rattle.book.specs.Calls.{closeTop, listTable, listCases, listAnswer, withListing, listed, numberCases, messageGiven, rowNamed, lineNamed, taking, delivered, rowCases, rowAnswer, rowFound, located, shown}
+use Rattle.book.proofs.Demand1.{list-told, message-told, number-told, row-told, answer-content, answer-number, refused-keeps}
 
-said-is : (s : Said) (a : Answer) (k : Counters) → a ≡ s .answer → k ≡ s .counters → record { answer = a; counters = k } ≡ s
-said-is s a k e f = rw (e, f)
+-- ---- a record is its parts
+
+outcome-is : (o : Outcome) (n : ℕ) (t : State) → n ≡ o .answer → t ≡ o .state → record { answer = n; state = t } ≡ o
+outcome-is o n t e f = rw (e, f)
+
+state-is : (t : State) (c : Counters) (rows lines : List ℕ) → c ≡ t .counters → rows ≡ t .rows → lines ≡ t .lines → lent c rows lines ≡ t
+state-is t c rows lines e f g = rw (e, f, g)
+
+shown-is : (s : Shown) (a : Answer) (x : RowShown) → a ≡ s .answer → x ≡ s .row → record { answer = a; row = x } ≡ s
+shown-is s a x e f = rw (e, f)
 
 -- above is not at most
 above-is : (x y : ℕ) → ltb y x ≡ not (leb x y)
@@ -52,269 +66,239 @@ broken-is : (b : Bool) (x y : ℕ) (t : Bool) → (b && leb x y) ≡ t → (not 
 broken-is true x y t e = above-is x y ∙ ap not e
 broken-is false x y t e = ap not e
 
--- 0 is given in a sound book only
-sound-there : (b : Bool) (cases : List Case) → inBook b cases ≡ 0 → b ≡ true
-sound-there true cases e = refl
-sound-there false cases e = absurd (omega arith)
+-- ---- a listing judged
 
-shown-is : (s : Shown) (a : Answer) (x : RowShown) → a ≡ s .answer → x ≡ s .row → record { answer = a; row = x } ≡ s
-shown-is s a x e f = rw (e, f)
+module _ (s : State) (l : Listing) where
+  abbrev keeps : Bool
+  keeps = text (l .symbol) && leb (l .close) closeTop
 
-module _ (c : Counters) (rows lines : List ℕ) where
-  abbrev safe : Bool
-  safe = sound c (length rows) (length lines)
+  told : (n : ℕ) → picked (listCases s l) ≡ n → answerOf n ≡ answerOf (listAnswer s l)
+  unfolding listAnswer
+  told n e = ap answerOf (sym (picked-is (listCases s l) ∙ e))
 
-  -- ---- a listing judged
+  pub list-unsound : soundIn s ≡ false → answerOf 17 ≡ answerOf (listAnswer s l)
+  unfolding listTable
+  list-unsound h = told 17 (rw h)
 
-  module _ (symbol : List ℕ) (close : ℕ) where
-    abbrev answer : ℕ
-    answer = listAnswer c rows lines symbol close
+  module _ (h : soundIn s ≡ true) where
+    pub list-broken : keeps ≡ false → answerOf 13 ≡ answerOf (listAnswer s l)
+    unfolding listTable
+    list-broken e = told 13 (rw (h, broken-is (text (l .symbol)) (l .close) closeTop false e))
 
-    abbrev there : List Row
-    there = usedRows rows (c .rows)
+    module _ (k : keeps ≡ true) where
+      pub list-late : (wantedIn s ≡ 1 → ⊥) → answerOf 14 ≡ answerOf (listAnswer s l)
+      unfolding listTable
+      list-late e = told 14 (rw (h, broken-is (text (l .symbol)) (l .close) closeTop true k, ne-eqb (wantedIn s) 1 e))
 
-    pub list-unsound : safe ≡ false → answerOf 17 ≡ answerOf answer
-    unfolding listAnswer
-    list-unsound s = rw s
+      module _ (w : wantedIn s ≡ 1) where
+        pub list-there : (i : ℕ) → listingOf (l .symbol) (sheetOf s) ≡ At i → answerOf 15 ≡ answerOf (listAnswer s l)
+        unfolding listTable
+        list-there i e =
+            let f : isListed (l .symbol) (sheetOf s) ≡ true = ap isFound e in
+            told 15 (rw (h, broken-is (text (l .symbol)) (l .close) closeTop true k, eq-eqb (wantedIn s) 1 w, f))
 
-    module _ (s : safe ≡ true) where
-      pub list-broken : (text symbol && leb close 2000000000) ≡ false → answerOf 13 ≡ answerOf answer
-      unfolding listAnswer listTable
-      list-broken e = rw (s, broken-is (text symbol) close 2000000000 false e)
+        pub list-new : listingOf (l .symbol) (sheetOf s) ≡ Nothing → (b : Bool) → leb (rowLimit (length (s .rows))) (s .counters .rows) ≡ b
+            → answerOf (cond b 16 0) ≡ answerOf (listAnswer s l)
+        unfolding listTable
+        list-new e b g =
+            let f : isListed (l .symbol) (sheetOf s) ≡ false = ap isFound e in
+            told (cond b 16 0) (rw (h, broken-is (text (l .symbol)) (l .close) closeTop true k, eq-eqb (wantedIn s) 1 w, f, rows-full (s .rows) (s .counters .rows), g))
 
-      module _ (k : (text symbol && leb close 2000000000) ≡ true) where
-        pub list-late : (c .wanted ≡ 1 → ⊥) → answerOf 14 ≡ answerOf answer
-        unfolding listAnswer listTable
-        list-late e = rw (s, broken-is (text symbol) close 2000000000 true k, ne-eqb (c .wanted) 1 e)
+  -- ---- a listing done
 
-        module _ (w : c .wanted ≡ 1) where
-          pub list-there : (i : ℕ) → rowWith symbol there ≡ At i → answerOf 15 ≡ answerOf answer
-          unfolding listAnswer listTable
-          list-there i e =
-              let l : listed symbol (symbolsOf there) ≡ true = sym (listed-found symbol there) ∙ ap isFound e in
-              rw (s, broken-is (text symbol) close 2000000000 true k, eq-eqb (c .wanted) 1 w, l)
+  module _ (a : Answer) (e : a ≡ answerOf (listAnswer s l)) where
+    answer-told : numberOf a ≡ listAnswer s l
+    answer-told = ap numberOf e ∙ list-told s l
 
-          pub list-new : rowWith symbol there ≡ Nothing → (b : Bool) → leb (rowLimit (length rows)) (c .rows) ≡ b
-              → answerOf (cond b 16 0) ≡ answerOf answer
-          unfolding listAnswer listTable
-          list-new e b f =
-              let l : listed symbol (symbolsOf there) ≡ false = sym (listed-found symbol there) ∙ ap isFound e in
-              rw (s, broken-is (text symbol) close 2000000000 true k, eq-eqb (c .wanted) 1 w, l, rows-full rows (c .rows), f)
+    pub list-refused : (numberOf a ≡ 0 → ⊥) → record { answer = numberOf a; state = s } ≡ listed s l
+    unfolding listed
+    list-refused z = outcome-is (listed s l) (numberOf a) s answer-told (sym (refused-keeps s .list l (λ q. z (answer-told ∙ q))))
 
-    -- ---- a listing done
+    pub list-done : numberOf a ≡ 0 → (c : Counters) (rows : List ℕ) → c ≡ oneRowMore (s .counters) → rows ≡ withRow (s .rows) (s .counters .rows) l
+        → record { answer = 0; state = lent c rows (s .lines) } ≡ listed s l
+    unfolding listed
+    list-done z c rows f g =
+        let t : listAnswer s l ≡ 0 = sym answer-told ∙ z in
+        rw t (ap (λ (x : State). record { answer = 0; state = x }) (state-is (withListing s l) c rows (s .lines) f g refl))
 
-    module _ (a : Answer) (e : a ≡ answerOf answer) where
-      number-told : numberOf a ≡ answer
-      unfolding listSaid
-      number-told = ap numberOf e ∙ answers-listed c rows lines .list symbol close .1
+-- ---- where no row and no line is asked for, none is acted on
 
-      pub list-refused : (numberOf a ≡ 0 → ⊥)
-          → (record { answer = a; counters = c } ≡ listSaid c rows lines symbol close) × (rows ≡ listRows c rows lines symbol close)
-      unfolding listSaid
-      list-refused z =
-          let k = refused-keeps c rows lines .list symbol close (λ q. z (number-told ∙ q)) in
-          (said-is (listSaid c rows lines symbol close) a c e (sym (k .0)), sym (k .1))
+event-idle : (k : Kind) (m : List ℕ) (r : Record) (i j : ℕ) → isEvent k ≡ true → rowsBy k m r i ≡ rowsBy k m r j
+unfolding rowsBy
+event-idle Event m r i j e = refl
+event-idle Trade m r i j e = absurd (true≢false (sym e))
+event-idle Cancel m r i j e = absurd (true≢false (sym e))
+event-idle Correction m r i j e = absurd (true≢false (sym e))
+event-idle Summary m r i j e = absurd (true≢false (sym e))
+event-idle Other m r i j e = absurd (true≢false (sym e))
 
-      module _ (z : numberOf a ≡ 0) where
-        taken : answer ≡ 0
-        taken = sym number-told ∙ z
+unnamed-idle : (k : Kind) (m : List ℕ) (used n : ℕ) (r : Record) (i j : ℕ) → namesOld k ≡ false → linesBy k m used n r i ≡ linesBy k m used n r j
+unfolding linesBy
+unnamed-idle Event m used n r i j e = refl
+unnamed-idle Trade m used n r i j e = refl
+unnamed-idle Cancel m used n r i j e = absurd (true≢false e)
+unnamed-idle Correction m used n r i j e = absurd (true≢false e)
+unnamed-idle Summary m used n r i j e = refl
+unnamed-idle Other m used n r i j e = refl
 
-        pub list-fits : c .rows ≤ 256
-        unfolding listAnswer
-        list-fits = omega (arith, sound-gives c (length rows) (length lines) (sound-there safe (listTable (c .wanted) (symbolsOf there) (rowLimit (length rows)) symbol close) taken) .rowsFit)
+-- ---- a message judged, under the wanted number
 
-        pub list-said : (k : Counters) → k ≡ oneRowMore c → record { answer = answerOf 0; counters = k } ≡ listSaid c rows lines symbol close
-        unfolding listSaid
-        list-said k f = rw (taken, f)
+module _ (s : State) (m : List ℕ) (w : Wanted (soundIn s) (wantedIn s) (wantedIn s)) (q : Reading) (f : q ≡ readOf m)
+    (kind : Kind) (h : kind ≡ kindIn (q .found)) (v : Verdict) (g : v ≡ judgedBy (basisOf s) kind q) where
+  abbrev here : Arrival
+  here = arrives (wantedIn s) m
 
-        pub list-rows : (out : List ℕ) → out ≡ withRow rows (c .rows) symbol close → out ≡ listRows c rows lines symbol close
-        unfolding listRows
-        list-rows out f = rw taken f
+  abbrev r : Record
+  r = readOf m .found
 
-  -- ---- a message judged, under the wanted number
+  abbrev it : Verdict
+  it = judgedBy (basisOf s) (kindIn r) (readOf m)
 
-  module _ (m : List ℕ) (w : Wanted safe (c .wanted) (c .wanted)) (q : Reading) (f : q ≡ readOf m) (v : Verdict)
-      (g : v ≡ judgedBy (c .phase) (usedRows rows (c .rows)) (usedLines lines (c .lines)) (lineLimit (length lines)) q) where
-    abbrev it : Verdict
-    it = judgedBy (c .phase) (usedRows rows (c .rows)) (usedLines lines (c .lines)) (lineLimit (length lines)) (readOf m)
+  kind-is : kind ≡ kindIn r
+  kind-is = h ∙ ap (λ (x : Reading). kindIn (x .found)) f
 
-    judged : v ≡ it
-    judged = g ∙ ap (judgedBy (c .phase) (usedRows rows (c .rows)) (usedLines lines (c .lines)) (lineLimit (length lines))) f
+  judged : v ≡ it
+  judged = g ∙ ap (λ (x : Kind). judgedBy (basisOf s) x q) kind-is ∙ ap (judgedBy (basisOf s) (kindIn r)) f
 
-    abbrev given : ℕ
-    given = deliverAnswer c rows lines (c .wanted) m
+  verdict-is : v .answer ≡ answerOf (messageGiven s here .number)
+  verdict-is =
+      ap (λ (x : Verdict). x .answer) judged
+      ∙ judged-is (basisOf s) (readOf m) (read-plain m)
+      ∙ ap (λ (x : Case). answerOf (x .number)) (sym (answer-content s here w))
 
-    answer-is : v .answer ≡ answerOf given
-    unfolding deliverAnswer
-    answer-is =
-        ap (λ (x : Verdict). x .answer) judged
-        ∙ judged-is (c .phase) (usedRows rows (c .rows)) (usedLines lines (c .lines)) (lineLimit (length lines)) (readOf m) (read-plain m)
-        ∙ ap answerOf (sym (number-content safe (c .wanted) (c .wanted) _ w))
+  verdict-number : numberOf (v .answer) ≡ messageGiven s here .number
+  verdict-number = ap numberOf verdict-is ∙ message-told s here
 
-    number-is : numberOf (v .answer) ≡ given
-    unfolding deliverSaid
-    number-is = ap numberOf answer-is ∙ answers-listed c rows lines .deliver (c .wanted) m .1
+  pub refused-here : (numberOf (v .answer) ≡ 0 → ⊥) → (c : Counters) → c ≡ usedUp (s .counters)
+      → record { answer = numberOf (v .answer); state = lent c (s .rows) (s .lines) } ≡ delivered s here
+  unfolding delivered
+  refused-here z c e =
+      let u = refused-keeps s .used here (w .sound) refl (w .greatest) (λ p. z (verdict-number ∙ p)) in
+      outcome-is (delivered s here) (numberOf (v .answer)) (lent c (s .rows) (s .lines)) verdict-number
+      (ap (λ (x : Counters). lent x (s .rows) (s .lines)) e ∙ sym u)
 
-    module _ (z : numberOf (v .answer) ≡ 0 → ⊥) where
-      pub refused-said : (k : Counters) → k ≡ usedUp c → record { answer = v .answer; counters = k } ≡ deliverSaid c rows lines (c .wanted) m
-      unfolding deliverSaid
-      refused-said k e =
-          said-is (deliverSaid c rows lines (c .wanted) m) (v .answer) k answer-is
-          (e ∙ sym (refused-keeps c rows lines .used (c .wanted) m (w .sound) refl (w .greatest) (λ p. z (number-is ∙ p))))
+  module _ (z : numberOf (v .answer) ≡ 0) where
+    given-none : messageGiven s here .number ≡ 0
+    given-none = sym verdict-number ∙ z
 
-      pub refused-rows : rows ≡ deliverRows c rows lines (c .wanted) m
-      refused-rows = sym (refused-keeps c rows lines .deliver (c .wanted) m (λ p. z (number-is ∙ p)) .0)
+    z-it : numberOf (it .answer) ≡ 0
+    z-it = ap (λ (x : Verdict). numberOf (x .answer)) (sym judged) ∙ z
 
-      pub refused-lines : lines ≡ deliverLines c rows lines (c .wanted) m
-      refused-lines = sym (refused-keeps c rows lines .deliver (c .wanted) m (λ p. z (number-is ∙ p)) .1)
-
-    module _ (z : numberOf (v .answer) ≡ 0) where
-      given-none : given ≡ 0
-      given-none = sym number-is ∙ z
-
-      z-it : numberOf (it .answer) ≡ 0
-      z-it = ap (λ (x : Verdict). numberOf (x .answer)) (sym judged) ∙ z
-
-      pub taken-said : (k : Counters) → k ≡ takenBy (q .found) c → record { answer = answerOf 0; counters = k } ≡ deliverSaid c rows lines (c .wanted) m
-      unfolding deliverSaid
-      taken-said k e = rw given-none (ap (λ (x : Counters). record { answer = answerOf 0; counters = x }) (e ∙ ap (λ (x : Reading). takenBy (x .found) c) f))
-
-      -- the row acted on is the first of the symbol
-      row-is : rowsBy rows (readOf m .found) (it .row) ≡ rowsBy rows (readOf m .found) (indexOf (rowWith (readOf m .found .symbol) (usedRows rows (c .rows))))
-      unfolding rowsBy
-      row-is = go (isEvent (readOf m .found)) refl
-        where
-          go : (t : Bool) → isEvent (readOf m .found) ≡ t
-              → rowsBy rows (readOf m .found) (it .row) ≡ rowsBy rows (readOf m .found) (indexOf (rowWith (readOf m .found .symbol) (usedRows rows (c .rows))))
-          go true t = rw t
-          go false t = rw (judged-row (c .phase) (usedRows rows (c .rows)) (usedLines lines (c .lines)) (lineLimit (length lines)) (readOf m) z-it t)
-
-      pub taken-rows : (out : List ℕ) → out ≡ rowsBy rows (q .found) (v .row) → out ≡ deliverRows c rows lines (c .wanted) m
-      unfolding deliverRows
-      taken-rows out e =
-          rw given-none (
-          e
-          ∙ ap (λ (x : Reading). rowsBy rows (x .found) (v .row)) f
-          ∙ ap (λ (x : Verdict). rowsBy rows (readOf m .found) (x .row)) judged
-          ∙ row-is)
-
-      -- the line acted on is the first that bears the named key; where none is named, none is asked for
-      line-is : linesBy lines (c .lines) (c .wanted) (readOf m .found) (it .line)
-          ≡ linesBy lines (c .lines) (c .wanted) (readOf m .found) (indexOf (lineWith (oldKey (readOf m .found)) (usedLines lines (c .lines))))
-      unfolding linesBy
-      line-is = go (namesOld (readOf m .found)) refl
-        where
-          go : (t : Bool) → namesOld (readOf m .found) ≡ t
-              → linesBy lines (c .lines) (c .wanted) (readOf m .found) (it .line)
-              ≡ linesBy lines (c .lines) (c .wanted) (readOf m .found) (indexOf (lineWith (oldKey (readOf m .found)) (usedLines lines (c .lines))))
-          go true t = rw (judged-line (c .phase) (usedRows rows (c .rows)) (usedLines lines (c .lines)) (lineLimit (length lines)) (readOf m) z-it t)
-          go false t = let n = neither (isCancel (readOf m .found)) (isCorrection (readOf m .found)) t in rw (n .0, n .1)
-
-      pub taken-lines : (out : List ℕ) → out ≡ linesBy lines (c .lines) (c .wanted) (q .found) (v .line) → out ≡ deliverLines c rows lines (c .wanted) m
-      unfolding deliverLines
-      taken-lines out e =
-          rw given-none (
-          e
-          ∙ ap (λ (x : Reading). linesBy lines (c .lines) (c .wanted) (x .found) (v .line)) f
-          ∙ ap (λ (x : Verdict). linesBy lines (c .lines) (c .wanted) (readOf m .found) (x .line)) judged
-          ∙ line-is)
-
-  -- ---- a message under any number
-
-  module _ (n : ℕ) (m : List ℕ) (a : Answer) (e : a ≡ answerOf (numberAnswer c rows lines n)) where
-    abbrev early : ℕ
-    early = numberAnswer c rows lines n
-
-    early-wanted : early ≡ 0 → Wanted safe (c .wanted) n
-    unfolding numberAnswer
-    early-wanted z = number-wanted safe (c .wanted) n .0 z
-
-    wanted-early : Wanted safe (c .wanted) n → early ≡ 0
-    unfolding numberAnswer
-    wanted-early w = number-wanted safe (c .wanted) n .1 w
-
-    early-answer : (Wanted safe (c .wanted) n → ⊥) → deliverAnswer c rows lines n m ≡ early
-    unfolding numberAnswer deliverAnswer
-    early-answer h = number-refused safe (c .wanted) n _ h
-
-    early-number : (early ≡ 0 → ⊥) → numberOf a ≡ early
-    unfolding deliverSaid
-    early-number h =
-        let g = early-answer (λ w. h (wanted-early w)) in
-        ap numberOf (e ∙ ap answerOf (sym g)) ∙ answers-listed c rows lines .deliver n m .1 ∙ g
-
-    pub wanted-is : numberOf a ≡ 0 → Wanted safe (c .wanted) n
-    wanted-is z = go (eqb early 0) refl
+    -- the row acted on is the first of the symbol
+    row-is : rowsBy (kindIn r) (s .rows) r (it .row) ≡ taking s r .rows
+    row-is = go (isEvent (kindIn r)) refl
       where
-        go : (t : Bool) → eqb early 0 ≡ t → Wanted safe (c .wanted) n
-        go true t = early-wanted (eqb-true early 0 t)
-        go false t = let h = eqb-false early 0 t in absurd (h (sym (early-number h) ∙ z))
+        at : isEvent (kindIn r) ≡ false → it .row ≡ rowNamed s r
+        at e = sym (ap indexOf (judged-row (basisOf s) (readOf m) z-it e))
 
-    -- so the call that uses the number up may be made, and what it promises is the whole call's
-    pub wanted-number : numberOf a ≡ 0 → numberAnswer c rows lines (c .wanted) ≡ 0
-    unfolding numberAnswer
-    wanted-number z = let w = wanted-is z in ap (λ (k : ℕ). numberAnswer c rows lines k) (sym (w .wanted)) ∙ wanted-early w
+        go : (t : Bool) → isEvent (kindIn r) ≡ t → rowsBy (kindIn r) (s .rows) r (it .row) ≡ taking s r .rows
+        go true t = event-idle (kindIn r) (s .rows) r (it .row) (rowNamed s r) t
+        go false t = ap (rowsBy (kindIn r) (s .rows) r) (at t)
 
-    pub wanted-said : numberOf a ≡ 0 → (s : Said) (r l : List ℕ)
-        → (s ≡ deliverSaid c rows lines (c .wanted) m) × ((r ≡ deliverRows c rows lines (c .wanted) m) × (l ≡ deliverLines c rows lines (c .wanted) m))
-        → (s ≡ deliverSaid c rows lines n m) × ((r ≡ deliverRows c rows lines n m) × (l ≡ deliverLines c rows lines n m))
-    wanted-said z s r l h = rw (wanted-is z .wanted) h
+    -- the line acted on is the first that bears the named key; where none is named, none is asked for
+    line-is : linesBy (kindIn r) (s .lines) (s .counters .lines) (wantedIn s) r (it .line) ≡ taking s r .lines
+    line-is = go (namesOld (kindIn r)) refl
+      where
+        at : namesOld (kindIn r) ≡ true → it .line ≡ lineNamed s r
+        at e = sym (ap indexOf (judged-line (basisOf s) (readOf m) z-it e))
 
-    pub early-said : (numberOf a ≡ 0 → ⊥)
-        → (record { answer = a; counters = c } ≡ deliverSaid c rows lines n m) × ((rows ≡ deliverRows c rows lines n m) × (lines ≡ deliverLines c rows lines n m))
-    unfolding deliverSaid
-    early-said z =
-        let h : early ≡ 0 → ⊥ = λ p. z (ap numberOf (e ∙ ap answerOf p)) in
-        let u = refused-keeps c rows lines .unused n m (λ s w f. h (wanted-early (record { sound = s; wanted = w; least = omega (arith, sound-gives c (length rows) (length lines) s .least); greatest = f }))) in
-        let k = refused-keeps c rows lines .deliver n m (u .0) in
-        let g = early-answer (λ w. h (wanted-early w)) in
-        (said-is (deliverSaid c rows lines n m) a c (e ∙ ap answerOf (sym g)) (sym (u .1)), (sym (k .0), sym (k .1)))
+        go : (t : Bool) → namesOld (kindIn r) ≡ t → linesBy (kindIn r) (s .lines) (s .counters .lines) (wantedIn s) r (it .line) ≡ taking s r .lines
+        go true t = ap (linesBy (kindIn r) (s .lines) (s .counters .lines) (wantedIn s) r) (at t)
+        go false t = unnamed-idle (kindIn r) (s .lines) (s .counters .lines) (wantedIn s) r (it .line) (lineNamed s r) t
 
-  -- ---- a row found
+    pub taken-here : (c : Counters) (rows lines : List ℕ)
+        → c ≡ takenBy kind (q .found .event) (s .counters)
+        → rows ≡ rowsBy kind (s .rows) (q .found) (v .row)
+        → lines ≡ linesBy kind (s .lines) (s .counters .lines) (wantedIn s) (q .found) (v .line)
+        → record { answer = 0; state = lent c rows lines } ≡ delivered s here
+    unfolding delivered
+    taken-here c rows lines ec er el =
+        let fc = ec ∙ ap (λ (x : Kind). takenBy x (q .found .event) (s .counters)) kind-is ∙ ap (λ (x : Reading). takenBy (kindIn r) (x .found .event) (s .counters)) f in
+        let fr =
+        er
+        ∙ ap (λ (x : Kind). rowsBy x (s .rows) (q .found) (v .row)) kind-is
+        ∙ ap (λ (x : Reading). rowsBy (kindIn r) (s .rows) (x .found) (v .row)) f
+        ∙ ap (λ (x : Verdict). rowsBy (kindIn r) (s .rows) r (x .row)) judged
+        ∙ row-is in
+        let fl =
+        el
+        ∙ ap (λ (x : Kind). linesBy x (s .lines) (s .counters .lines) (wantedIn s) (q .found) (v .line)) kind-is
+        ∙ ap (λ (x : Reading). linesBy (kindIn r) (s .lines) (s .counters .lines) (wantedIn s) (x .found) (v .line)) f
+        ∙ ap (λ (x : Verdict). linesBy (kindIn r) (s .lines) (s .counters .lines) (wantedIn s) r (x .line)) judged
+        ∙ line-is in
+        rw given-none (ap (λ (x : State). record { answer = 0; state = x }) (state-is (taking s r) c rows lines fc fr fl))
 
-  module _ (symbol : List ℕ) where
-    abbrev listedRows : List Row
-    listedRows = usedRows rows (c .rows)
+-- ---- a message under any number
 
-    pub locate-unsound : safe ≡ false → record { answer = answerOf 17; row = 0 } ≡ located c rows lines symbol
-    unfolding located rowAnswer
-    locate-unsound s = rw s
+module _ (s : State) (n : ℕ) (m : List ℕ) (a : Answer) (e : a ≡ answerOf (given (numberCases s n) .number)) where
+  early-number : numberOf a ≡ given (numberCases s n) .number
+  early-number = ap numberOf e ∙ number-told s n
 
-    pub locate-none : safe ≡ true → rowWith symbol listedRows ≡ Nothing → record { answer = answerOf 7; row = 0 } ≡ located c rows lines symbol
-    unfolding located rowAnswer
-    locate-none s f =
-        let l : listed symbol (symbolsOf listedRows) ≡ false = sym (listed-found symbol listedRows) ∙ ap isFound f in
-        rw (s, l)
+  pub wanted-is : numberOf a ≡ 0 → Wanted (soundIn s) (wantedIn s) n
+  wanted-is z = number-wanted (soundIn s) (wantedIn s) n .0 (sym early-number ∙ z)
 
-    pub locate-there : (i : ℕ) → safe ≡ true → rowWith symbol listedRows ≡ At i → record { answer = answerOf 0; row = i } ≡ located c rows lines symbol
-    unfolding located rowAnswer
-    locate-there i s f =
-        let l : listed symbol (symbolsOf listedRows) ≡ true = sym (listed-found symbol listedRows) ∙ ap isFound f in
-        rw (s, l, f)
+  -- so the call that uses the number up may be made, and what it promises is the whole call's
+  pub wanted-number : numberOf a ≡ 0 → given (numberCases s (wantedIn s)) .number ≡ 0
+  wanted-number z = ap (λ (k : ℕ). given (numberCases s k) .number) (sym (wanted-is z .wanted)) ∙ sym early-number ∙ z
 
-    -- ---- a row read
+  pub wanted-left : numberOf a ≡ 0 → (o : Outcome) → o ≡ delivered s (arrives (wantedIn s) m) → o ≡ delivered s (arrives n m)
+  wanted-left z o h = h ∙ ap (λ (k : ℕ). delivered s (arrives k m)) (sym (wanted-is z .wanted))
 
-    module _ (p : Located) (e : p ≡ located c rows lines symbol) where
-      row-number : numberOf (p .answer) ≡ rowAnswer c rows lines symbol
-      unfolding located rowShown
-      row-number = ap (λ (x : Located). numberOf (x .answer)) e ∙ answers-listed c rows lines .row symbol .1
+  pub early-left : (numberOf a ≡ 0 → ⊥) → record { answer = numberOf a; state = s } ≡ delivered s (arrives n m)
+  unfolding delivered
+  early-left z =
+      let u : Wanted (soundIn s) (wantedIn s) n → ⊥ = λ w. z (early-number ∙ number-wanted (soundIn s) (wantedIn s) n .1 w) in
+      let k = refused-keeps s .unused (arrives n m) (λ h x g. u (record { sound = h; wanted = x; least = least-of h x; greatest = g })) in
+      outcome-is (delivered s (arrives n m)) (numberOf a) s (early-number ∙ ap (λ (x : Case). x .number) (sym (answer-number s (arrives n m) u))) (sym (k .1))
+    where
+      least-of : soundIn s ≡ true → n ≡ wantedIn s → 1 ≤ n
+      least-of h x = omega (arith, sound-gives (s .counters) (length (s .rows)) (length (s .lines)) h .least)
 
-      located-row : rowAnswer c rows lines symbol ≡ 0 → located c rows lines symbol .row ≡ indexOf (rowWith symbol listedRows)
-      unfolding located
-      located-row n = rw n
+-- ---- a row found
 
-      pub row-refused : (numberOf (p .answer) ≡ 0 → ⊥) → (x : RowShown) → x ≡ nothingShown
-          → record { answer = p .answer; row = x } ≡ rowShown c rows lines symbol
-      unfolding located rowShown
-      row-refused z x f =
-          shown-is (rowShown c rows lines symbol) (p .answer) x (ap (λ (y : Located). y .answer) e)
-          (f ∙ sym (refused-keeps c rows lines .row symbol (λ q. z (row-number ∙ q))))
+module _ (s : State) (symbol : List ℕ) where
+  row-picked : rowAnswer s symbol ≡ picked (rowCases s symbol)
+  unfolding rowAnswer
+  row-picked = picked-is (rowCases s symbol)
 
-      pub row-there : numberOf (p .answer) ≡ 0 → (x : RowShown) (kept : Row) (figures : Figures)
-          → kept ≡ rowIn rows (p .row) → figures ≡ figuresOf symbol (usedLines lines (c .lines)) → x ≡ shownOf kept figures
-          → record { answer = answerOf 0; row = x } ≡ rowShown c rows lines symbol
-      unfolding rowShown
-      row-there z x kept figures k g f =
-          let n : rowAnswer c rows lines symbol ≡ 0 = sym row-number ∙ z in
-          let i : p .row ≡ indexOf (rowWith symbol listedRows) = ap (λ (y : Located). y .row) e ∙ located-row n in
-          rw n (ap (λ (y : RowShown). record { answer = answerOf 0; row = y }) (f ∙ ap (λ (y : Row). shownOf y figures) (k ∙ ap (rowIn rows) i) ∙ ap (shownOf (rowIn rows (indexOf (rowWith symbol listedRows)))) g))
+  pub locate-unsound : soundIn s ≡ false → record { answer = answerOf 17; row = 0 } ≡ located s symbol
+  unfolding located
+  locate-unsound h = rw (row-picked, h)
+
+  pub locate-none : soundIn s ≡ true → listingOf symbol (sheetOf s) ≡ Nothing → record { answer = answerOf 7; row = 0 } ≡ located s symbol
+  unfolding located
+  locate-none h f = rw (row-picked, h, f)
+
+  pub locate-there : (i : ℕ) → soundIn s ≡ true → listingOf symbol (sheetOf s) ≡ At i → record { answer = answerOf 0; row = i } ≡ located s symbol
+  unfolding located
+  locate-there i h f = rw (row-picked, h, f)
+
+  -- ---- a row read
+
+  module _ (p : Located) (e : p ≡ located s symbol) where
+    row-number : numberOf (p .answer) ≡ rowAnswer s symbol
+    unfolding located
+    row-number = ap (λ (x : Located). numberOf (x .answer)) e ∙ row-told s symbol
+
+    located-row : rowAnswer s symbol ≡ 0 → located s symbol .row ≡ rowFound s symbol
+    unfolding located
+    located-row n = rw n
+
+    pub row-refused : (numberOf (p .answer) ≡ 0 → ⊥) → (x : RowShown) → x ≡ nothingShown → record { answer = p .answer; row = x } ≡ shown s symbol
+    unfolding located shown
+    row-refused z x f =
+        let k : numberOf (shown s symbol .answer) ≡ 0 → ⊥ = λ q. z (row-number ∙ sym (row-told s symbol) ∙ q) in
+        shown-is (shown s symbol) (p .answer) x (ap (λ (y : Located). y .answer) e) (f ∙ sym (refused-keeps s .row symbol k))
+
+    pub row-there : numberOf (p .answer) ≡ 0 → (x : RowShown) (kept : Row) (figures : Figures)
+        → kept ≡ rowIn (s .rows) (p .row) → figures ≡ figuresOf symbol (linesIn s) → x ≡ shownOf kept figures
+        → record { answer = answerOf 0; row = x } ≡ shown s symbol
+    unfolding shown
+    row-there z x kept figures k g f =
+        let n : rowAnswer s symbol ≡ 0 = sym row-number ∙ z in
+        let i : p .row ≡ rowFound s symbol = ap (λ (y : Located). y .row) e ∙ located-row n in
+        rw n (
+        ap (λ (y : RowShown). record { answer = answerOf 0; row = y }) (
+        f
+        ∙ ap (λ (y : Row). shownOf y figures) (k ∙ ap (rowIn (s .rows)) i)
+        ∙ ap (shownOf (rowIn (s .rows) (rowFound s symbol))) g))

@@ -1,90 +1,125 @@
--- The promise of each call, for every counters, lent bytes, number, message and symbol.
+-- The promise of each call, for every state that is lent, every listing, arrival and symbol.
 -- Assumes nothing.
 use Prim.Native.Nat.{ℕ}
-use mathlib.Core.List.{List, _++_}
-use mathlib.Core.Bool.{cond, _&&_}
-use lib.Dec.{eqb, leb}
+use mathlib.Core.List.{List, [], _∷_, _++_}
+use mathlib.Core.Bool.{cond, not, _||_}
+use lib.Dec.{eqb, ltb, leb}
 use lib.ListN.{length}
+use Rattle.texts.specs.Text.{text}
 use Rattle.answers.specs.Answers.{answerOf}
+use Rattle.answers.specs.Cases.{Case, says, given, inBook}
+use Rattle.records.specs.declared.Record.{Record}
 use Rattle.message.specs.Reading.{readOf}
-use Rattle.message.specs.declared.Reading.{Reading}
-use Rattle.lines.specs.Lines.{usedLines, lineLimit, lineWith}
-use Rattle.rows.specs.Rows.{usedRows, rowLimit, rowWith, rowIn, withRow}
+use Rattle.lines.specs.Lines.{lineWith}
+use Rattle.rows.specs.declared.Listing.{Listing}
+use Rattle.rows.specs.Rows.{rowLimit, listingOf, rowIn, withRow}
 use Rattle.walk.specs.Figures.{figuresOf}
-use Rattle.book.specs.declared.counters.Counters.{Counters}
-use Rattle.book.specs.declared.Said.{Said}
-use Rattle.book.specs.declared.Located.{Located}
-use Rattle.book.specs.declared.Shown.{Shown}
-use Rattle.book.specs.Counting.{usedUp, oneRowMore, takenBy, sound}
-use Rattle.keys.specs.Messages.{oldKey}
-use Rattle.table.specs.Table.{symbolsOf, inBook, numberTable, contentTable, listTable, rowTable}
+use Rattle.counters.specs.Counting.{usedUp, oneRowMore, takenBy}
+use Rattle.keys.specs.Keys.{kindIn, oldKey}
+use Rattle.table.specs.Table.{isListed, numberTable, contentTable}
 use Rattle.take.specs.Taking.{linesBy, rowsBy, indexOf}
 use Rattle.show.specs.Showing.{shownOf, nothingShown}
+use Rattle.book.specs.declared.Located.{Located}
+use Rattle.book.specs.declared.Shown.{Shown}
+use Rattle.book.specs.State.{State, Outcome, Arrival, wantedIn, sheetOf, linesIn, basisOf, soundIn}
 
-abbrev pub said : ℕ → Counters → Said
-said n c = record { answer = answerOf n; counters = c }
+-- ---- listing
 
-module _ (c : Counters) (rows lines : List ℕ) where
-  -- ---- listing
+-- the highest close
+abbrev pub closeTop : ℕ
+closeTop = 2000000000
 
-  unfoldable pub listAnswer : List ℕ → ℕ → ℕ
-  listAnswer symbol close =
-      inBook (sound c (length rows) (length lines)) (listTable (c .wanted) (symbolsOf (usedRows rows (c .rows))) (rowLimit (length rows)) symbol close)
+-- worked from the wanted number, the sheet so far, how many rows there may be, and the listing
+unfoldable pub listTable : ℕ → List Listing → ℕ → Listing → List Case
+listTable wanted sheet limit l =
+    -- symbol or close breaks its rule
+    says 13 (not (text (l .symbol)) || ltb closeTop (l .close))
+    -- a number was used up already
+    ∷ says 14 (not (eqb wanted 1))
+    -- symbol listed already
+    ∷ says 15 (isListed (l .symbol) sheet)
+    -- every row is used
+    ∷ says 16 (leb limit (length sheet))
+    ∷ []
 
-  unfoldable pub listSaid : List ℕ → ℕ → Said
-  listSaid symbol close = said (listAnswer symbol close) (cond (eqb (listAnswer symbol close) 0) (oneRowMore c) c)
+abbrev pub listCases : State → Listing → List Case
+listCases s l = inBook (soundIn s) (listTable (wantedIn s) (sheetOf s) (rowLimit (length (s .rows))) l)
 
-  -- a row added at the end, or nothing
-  unfoldable pub listRows : List ℕ → ℕ → List ℕ
-  listRows symbol close = cond (eqb (listAnswer symbol close) 0) (withRow rows (c .rows) symbol close) rows
+unfoldable pub listAnswer : State → Listing → ℕ
+listAnswer s l = given (listCases s l) .number
 
-  -- ---- delivering
+-- done: a row added at the end
+abbrev pub withListing : State → Listing → State
+withListing s l = record { counters = oneRowMore (s .counters); rows = withRow (s .rows) (s .counters .rows) l; lines = s .lines }
 
-  -- 17, 1, 2, 3, or 0 for the wanted number
-  unfoldable pub numberAnswer : ℕ → ℕ
-  numberAnswer n = inBook (sound c (length rows) (length lines)) (numberTable (c .wanted) n)
+unfoldable pub listed : State → Listing → Outcome
+listed s l = record { answer = listAnswer s l; state = cond (eqb (listAnswer s l) 0) (withListing s l) s }
 
-  unfoldable pub deliverAnswer : ℕ → List ℕ → ℕ
-  deliverAnswer n m =
-      inBook (sound c (length rows) (length lines))
-      (numberTable (c .wanted) n ++ contentTable (c .phase) (symbolsOf (usedRows rows (c .rows))) (usedLines lines (c .lines)) (lineLimit (length lines)) (readOf m))
+-- ---- delivering
 
-  -- taken; or the number used up, which 4 to 12 do; or nothing
-  abbrev pub countersAfter : ℕ → Reading → Counters
-  countersAfter a q = cond (eqb a 0) (takenBy (q .found) c) (cond (leb 4 a && leb a 12) (usedUp c) c)
+-- 17, 1, 2, 3, or 0 for the wanted number
+abbrev pub numberCases : State → ℕ → List Case
+numberCases s n = inBook (soundIn s) (numberTable (wantedIn s) n)
 
-  -- acting on the first line that bears the named key, and on the first row of the symbol
-  abbrev pub linesTaken : Reading → List ℕ
-  linesTaken q = linesBy lines (c .lines) (c .wanted) (q .found) (indexOf (lineWith (oldKey (q .found)) (usedLines lines (c .lines))))
+-- 17, then the number, then the content
+abbrev pub messageCases : State → Arrival → List Case
+messageCases s a = inBook (soundIn s) (numberTable (wantedIn s) (a .number) ++ contentTable (basisOf s) (readOf (a .message)))
 
-  abbrev pub rowsTaken : Reading → List ℕ
-  rowsTaken q = rowsBy rows (q .found) (indexOf (rowWith (q .found .symbol) (usedRows rows (c .rows))))
+unfoldable pub messageGiven : State → Arrival → Case
+messageGiven s a = given (messageCases s a)
 
-  unfoldable pub deliverSaid : ℕ → List ℕ → Said
-  deliverSaid n m = said (deliverAnswer n m) (countersAfter (deliverAnswer n m) (readOf m))
+-- which row is the first of a record's symbol, and which line the first that bears the key that it names
+abbrev pub rowNamed : State → Record → ℕ
+rowNamed s r = indexOf (listingOf (r .symbol) (sheetOf s))
 
-  unfoldable pub deliverRows : ℕ → List ℕ → List ℕ
-  deliverRows n m = cond (eqb (deliverAnswer n m) 0) (rowsTaken (readOf m)) rows
+abbrev pub lineNamed : State → Record → ℕ
+lineNamed s r = indexOf (lineWith (oldKey r) (linesIn s))
 
-  unfoldable pub deliverLines : ℕ → List ℕ → List ℕ
-  deliverLines n m = cond (eqb (deliverAnswer n m) 0) (linesTaken (readOf m)) lines
+-- done: the message acts on that row and that line, and is counted
+abbrev pub taking : State → Record → State
+taking s r =
+    record {
+      counters = takenBy (kindIn r) (r .event) (s .counters);
+      rows = rowsBy (kindIn r) (s .rows) r (rowNamed s r);
+      lines = linesBy (kindIn r) (s .lines) (s .counters .lines) (wantedIn s) r (lineNamed s r);
+    }
 
-  -- ---- reading a row
+-- used up: the wanted number up by one, all else equal
+abbrev pub spent : State → State
+spent s = record { counters = usedUp (s .counters); rows = s .rows; lines = s .lines }
 
-  unfoldable pub rowAnswer : List ℕ → ℕ
-  rowAnswer symbol = inBook (sound c (length rows) (length lines)) (rowTable (symbolsOf (usedRows rows (c .rows))) symbol)
+-- what a case of the table leaves: taken, or the number used up, or nothing
+abbrev pub after : State → Record → Case → State
+after s r g = cond (eqb (g .number) 0) (taking s r) (cond (g .uses) (spent s) s)
 
-  -- where the row is; 0, and unread, where it is refused
-  unfoldable pub located : List ℕ → Located
-  located symbol =
-      record { answer = answerOf (rowAnswer symbol); row = cond (eqb (rowAnswer symbol) 0) (indexOf (rowWith symbol (usedRows rows (c .rows)))) 0 }
+unfoldable pub delivered : State → Arrival → Outcome
+delivered s a = record { answer = messageGiven s a .number; state = after s (readOf (a .message) .found) (messageGiven s a) }
 
-  unfoldable pub rowShown : List ℕ → Shown
-  rowShown symbol =
-      record {
-        answer = answerOf (rowAnswer symbol);
-        row =
-            cond (eqb (rowAnswer symbol) 0)
-            (shownOf (rowIn rows (indexOf (rowWith symbol (usedRows rows (c .rows))))) (figuresOf symbol (usedLines lines (c .lines))))
-            nothingShown;
-      }
+-- ---- reading a row
+
+abbrev pub rowTable : List Listing → List ℕ → List Case
+rowTable sheet symbol =
+    -- symbol not listed
+    says 7 (not (isListed symbol sheet)) ∷ []
+
+abbrev pub rowCases : State → List ℕ → List Case
+rowCases s symbol = inBook (soundIn s) (rowTable (sheetOf s) symbol)
+
+unfoldable pub rowAnswer : State → List ℕ → ℕ
+rowAnswer s symbol = given (rowCases s symbol) .number
+
+abbrev pub rowFound : State → List ℕ → ℕ
+rowFound s symbol = indexOf (listingOf symbol (sheetOf s))
+
+-- where the row is; 0, and unread, where it is refused
+unfoldable pub located : State → List ℕ → Located
+located s symbol = record { answer = answerOf (rowAnswer s symbol); row = cond (eqb (rowAnswer s symbol) 0) (rowFound s symbol) 0 }
+
+-- the first row of the symbol, with the figures of its live lines
+unfoldable pub shown : State → List ℕ → Shown
+shown s symbol =
+    record {
+      answer = answerOf (rowAnswer s symbol);
+      row =
+          cond (eqb (rowAnswer s symbol) 0) (shownOf (rowIn (s .rows) (rowFound s symbol)) (figuresOf symbol (linesIn s))) nothingShown;
+    }

@@ -1,2 +1,2 @@
-pub mod Counting
+pub mod State
 pub mod Calls

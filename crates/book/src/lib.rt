@@ -1,26 +1,29 @@
 // The book of one day: counters by value, rows and lines in lent bytes. No call counts on its caller for a check, and a
 // refused one leaves every lent byte as it was.
-pub mod counters;
-
 use answers::Answer;
 use cells::Found;
 use counters::Counters;
+use kinds::kind_of;
+use rows::Listing;
 use show::RowShown;
 use table::judge;
+use table::judge_number;
 use take::take_lines;
 use take::take_rows;
 ghost use mathlib.Core.Path.{_≡_};
 ghost use Rattle.answers.specs.Answers.{answerOf};
-ghost use Rattle.book.specs.Counting.{freshCounters};
-ghost use Rattle.book.specs.Calls.{numberAnswer, listAnswer, listSaid, listRows, deliverSaid, deliverRows, deliverLines, located, rowShown};
+ghost use Rattle.answers.specs.Cases.{given};
+ghost use Rattle.counters.specs.Counting.{freshCounters};
+ghost use Rattle.book.specs.State.{lent, leaving, arrives};
+ghost use Rattle.book.specs.Calls.{listAnswer, listed, numberCases, delivered, located, shown};
 
-// What a listing or a message is told, and the counters after it.
+// The answer to a listing or a message, and the counters that follow from it.
 pub struct Said {
     pub answer: Answer,
     pub counters: Counters,
 }
 
-// What the reading of a row is told.
+// The answer to the reading of a row, and the row: of zeros and absent figures where the answer is not `Done`.
 pub struct Shown {
     pub answer: Answer,
     pub row: RowShown,
@@ -31,6 +34,9 @@ struct Located {
     answer: Answer,
     row: usize,
 }
+
+// The highest close that a listing may have, in ten-thousandths.
+const CLOSE_TOP: u32 = 2000000000;
 
 // A fresh book. Starting one cannot be refused and touches no lent byte.
 pub fn fresh() -> Counters
@@ -46,11 +52,12 @@ pub fn fresh() -> Counters
 }
 
 // 13 to 17 or `Done`.
-fn judge_listing(c: Counters, rows: &[u8], lines: &[u8], symbol: [u8; 8], close: u32) -> Answer
-    ensures { λ a. ⌜ a ≡ answerOf (listAnswer c (now (rows .entry)) (now (lines .entry)) symbol close) ⌝ }
+fn judge_listing(c: Counters, rows: &[u8], lines: &[u8], l: Listing) -> Answer
+    ensures { λ a. ⌜ a ≡ answerOf (listAnswer (lent c (now (rows .entry)) (now (lines .entry))) l) ⌝ }
 {
+    let symbol = l.symbol;
     if c.is_sound(rows.len(), lines.len()) {
-        if texts::is_text(&symbol) & (close <= 2000000000) {
+        if texts::is_text(&symbol) & (l.close <= CLOSE_TOP) {
             if c.wanted != 1 {
                 return Answer::ListingLate;
             }
@@ -73,18 +80,17 @@ fn judge_listing(c: Counters, rows: &[u8], lines: &[u8], symbol: [u8; 8], close:
 }
 
 // Lists a symbol with its close: a row added at the end.
-pub fn list(c: Counters, rows: &mut [u8], lines: &[u8], symbol: [u8; 8], close: u32) -> Said
-    ensures said { λ s. ⌜ s ≡ listSaid c (now (rows .entry)) (now (lines .entry)) symbol close ⌝ }
-    ensures rows { λ s. ⌜ now (rows .exit) ≡ listRows c (now (rows .entry)) (now (lines .entry)) symbol close ⌝ }
+pub fn list(c: Counters, rows: &mut [u8], lines: &[u8], l: Listing) -> Said
+    ensures { λ s. ⌜ leaving s (now (rows .exit)) (now (lines .entry)) ≡ listed (lent c (now (rows .entry)) (now (lines .entry))) l ⌝ }
 {
-    let a = judge_listing(c, rows, lines, symbol, close);
+    let a = judge_listing(c, rows, lines, l);
     if answers::number(a) != 0 {
         return Said {
             answer: a,
             counters: c,
         };
     }
-    rows::put(rows, c.rows, symbol, close);
+    rows::put(rows, c.rows, l);
     Said {
         answer: Answer::Done,
         counters: c.add_row(),
@@ -93,13 +99,13 @@ pub fn list(c: Counters, rows: &mut [u8], lines: &[u8], symbol: [u8; 8], close: 
 
 // A message that bears the wanted number: taken, or the number used up.
 fn use_number(c: Counters, rows: &mut [u8], lines: &mut [u8], message: &[u8]) -> Said
-    requires { ⌜ numberAnswer c (now rows) (now lines) (c .wanted) ≡ 0 ⌝ }
-    ensures said { λ s. ⌜ s ≡ deliverSaid c (now (rows .entry)) (now (lines .entry)) (c .wanted) (now (message .entry)) ⌝ }
-    ensures rows { λ s. ⌜ now (rows .exit) ≡ deliverRows c (now (rows .entry)) (now (lines .entry)) (c .wanted) (now (message .entry)) ⌝ }
-    ensures lines { λ s. ⌜ now (lines .exit) ≡ deliverLines c (now (rows .entry)) (now (lines .entry)) (c .wanted) (now (message .entry)) ⌝ }
+    requires { ⌜ given (numberCases (lent c (now rows) (now lines)) (c .wanted)) .number ≡ 0 ⌝ }
+    ensures { λ s. ⌜ leaving s (now (rows .exit)) (now (lines .exit)) ≡ delivered (lent c (now (rows .entry)) (now (lines .entry))) (arrives (c .wanted) (now (message .entry))) ⌝ }
 {
     let q = message::read(message);
-    let v = judge(c.phase, rows, c.rows, lines, c.lines, q);
+    let r = q.found;
+    let kind = kind_of(r.letter);
+    let v = judge(c.phase, rows, c.rows, lines, c.lines, kind, q);
     let a = v.answer;
     if answers::number(a) != 0 {
         return Said {
@@ -107,21 +113,20 @@ fn use_number(c: Counters, rows: &mut [u8], lines: &mut [u8], message: &[u8]) ->
             counters: c.use_up(),
         };
     }
-    let r = q.found;
-    take_lines(lines, c.lines, c.wanted as u32, r, v.line);
-    take_rows(rows, r, v.row);
+    take_lines(lines, c.lines, c.wanted as u32, kind, r, v.line);
+    take_rows(rows, kind, r, v.row);
     Said {
         answer: Answer::Done,
-        counters: c.take(r),
+        counters: c.take(kind, r.event),
     }
 }
 
 // 17, 1, 2, 3, or `Done` for the wanted number.
-fn judge_number(c: Counters, rows: &[u8], lines: &[u8], number: u64) -> Answer
-    ensures { λ a. ⌜ a ≡ answerOf (numberAnswer c (now (rows .entry)) (now (lines .entry)) number) ⌝ }
+fn judge_arrival(c: Counters, rows: &[u8], lines: &[u8], number: u64) -> Answer
+    ensures { λ a. ⌜ a ≡ answerOf (given (numberCases (lent c (now (rows .entry)) (now (lines .entry))) number) .number) ⌝ }
 {
     if c.is_sound(rows.len(), lines.len()) {
-        c.order(number)
+        judge_number(c.wanted, number)
     } else {
         Answer::Unsound
     }
@@ -129,11 +134,9 @@ fn judge_number(c: Counters, rows: &[u8], lines: &[u8], number: u64) -> Answer
 
 // Delivers a message under its number.
 pub fn deliver(c: Counters, rows: &mut [u8], lines: &mut [u8], number: u64, message: &[u8]) -> Said
-    ensures said { λ s. ⌜ s ≡ deliverSaid c (now (rows .entry)) (now (lines .entry)) number (now (message .entry)) ⌝ }
-    ensures rows { λ s. ⌜ now (rows .exit) ≡ deliverRows c (now (rows .entry)) (now (lines .entry)) number (now (message .entry)) ⌝ }
-    ensures lines { λ s. ⌜ now (lines .exit) ≡ deliverLines c (now (rows .entry)) (now (lines .entry)) number (now (message .entry)) ⌝ }
+    ensures { λ s. ⌜ leaving s (now (rows .exit)) (now (lines .exit)) ≡ delivered (lent c (now (rows .entry)) (now (lines .entry))) (arrives number (now (message .entry))) ⌝ }
 {
-    let a = judge_number(c, rows, lines, number);
+    let a = judge_arrival(c, rows, lines, number);
     if answers::number(a) != 0 {
         return Said {
             answer: a,
@@ -145,7 +148,7 @@ pub fn deliver(c: Counters, rows: &mut [u8], lines: &mut [u8], number: u64, mess
 
 // 17, 7, or which row the symbol is.
 fn find_row(c: Counters, rows: &[u8], lines: &[u8], symbol: [u8; 8]) -> Located
-    ensures { λ p. ⌜ p ≡ located c (now (rows .entry)) (now (lines .entry)) symbol ⌝ }
+    ensures { λ p. ⌜ p ≡ located (lent c (now (rows .entry)) (now (lines .entry))) symbol ⌝ }
 {
     if c.is_sound(rows.len(), lines.len()) {
         match rows::find(rows, c.rows, symbol) {
@@ -172,7 +175,7 @@ fn find_row(c: Counters, rows: &[u8], lines: &[u8], symbol: [u8; 8]) -> Located
 
 // Reads the row of a symbol.
 pub fn row(c: Counters, rows: &[u8], lines: &[u8], symbol: [u8; 8]) -> Shown
-    ensures { λ s. ⌜ s ≡ rowShown c (now (rows .entry)) (now (lines .entry)) symbol ⌝ }
+    ensures { λ s. ⌜ s ≡ shown (lent c (now (rows .entry)) (now (lines .entry))) symbol ⌝ }
 {
     let p = find_row(c, rows, lines, symbol);
     let a = p.answer;

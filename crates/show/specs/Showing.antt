@@ -41,12 +41,12 @@ agreesWith (HighLow h l) high low = eqb h (orZero high) && eqb l (orZero low)
 unfoldable pub shownOf : Row → Figures → RowShown
 shownOf r f =
     record {
-      symbol = r .symbol;
-      close = r .close;
+      symbol = r .listing .symbol;
+      close = r .listing .close;
       last = lastOf (f .last);
       high = f .high;
       low = f .low;
-      net = netOf (lastOf (f .last)) (r .close);
+      net = netOf (lastOf (f .last)) (r .listing .close);
       volume = f .volume;
       count = f .count;
       agrees = agreesWith (r .summary) (f .high) (f .low);

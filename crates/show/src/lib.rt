@@ -80,14 +80,15 @@ pub fn shown(r: Row, f: Figures) -> RowShown
     let low = f.low;
     let summary = r.summary;
     let reported = r.reported;
-    let symbol = r.symbol;
+    let listing = r.listing;
+    let symbol = listing.symbol;
     RowShown {
         symbol: symbol,
-        close: r.close,
+        close: listing.close,
         last: last,
         high: high,
         low: low,
-        net: net_of(last, r.close),
+        net: net_of(last, listing.close),
         volume: f.volume,
         count: f.count,
         agrees: agrees_with(summary, high, low),

@@ -1,53 +1,59 @@
--- The answers of a message, of a listing and of a row's reading, a case for each number of document 01's table. They are worked
--- over the phase, the listed symbols, the lines so far and the room, so that whoever knows these can work them. 17 is `inBook`;
--- 18 is the writer's. 6 to 12 ask what was read, which under 4 and 5 is a record of zeros, and then 4 or 5 is given anyway.
+-- The answers of a message, a case for each number of document 01's table, in its order. They are worked over the phase, the sheet, the
+-- lines so far and the room, so that whoever knows these can work them. 17 goes before them (`inBook`); 18 is the writer's. 6 to 12 ask
+-- what was read, which under 4 and 5 is a record of zeros, and then 4 or 5 is given anyway.
 -- Assumes nothing.
 use Prim.Native.Nat.{ℕ}
-use mathlib.Core.List.{List, [], _∷_, map}
-use mathlib.Core.Bool.{Bool, true, false, cond, not, _&&_, _||_}
+use mathlib.Core.List.{List, [], _∷_}
+use mathlib.Core.Bool.{Bool, true, false, not, _&&_, _||_}
 use lib.Dec.{eqb, ltb, leb}
 use lib.ListN.{length, getD}
-use Rattle.octets.specs.Run.{same}
-use Rattle.texts.specs.Text.{text}
 use Rattle.answers.specs.Answers.{numberOf}
+use Rattle.answers.specs.Cases.{Case, says, spends}
 use Rattle.records.specs.declared.Record.{Record}
 use Rattle.message.specs.declared.Reading.{Reading}
 use Rattle.cells.specs.declared.Found.{Found}
 use Rattle.cells.specs.declared.Found.the-variants.{Nothing, At}
+use Rattle.kinds.specs.Kinds.{isEvent, namesOld, makesNew}
 use Rattle.lines.specs.declared.Line.{Line}
-use Rattle.rows.specs.declared.Row.{Row}
-use Rattle.lines.specs.Lines.{lineWith, noLine}
-use Rattle.keys.specs.Messages.{isEvent, namesOld, makesNew, due, oldKey, newKey, matches}
+use Rattle.lines.specs.Lines.{lineLimit, usedLines, lineWith, noLine}
+use Rattle.rows.specs.declared.Listing.{Listing}
+use Rattle.rows.specs.Rows.{usedSheet, listingOf}
+use Rattle.counters.specs.Phases.{due}
+use Rattle.counters.specs.Counting.{lastNumber}
+use Rattle.keys.specs.Keys.{kindIn, oldKey, newKey, matches}
 
--- ---- a table
+-- ---- what the table is worked from
 
-pub record Case : Type 0 where
-  pub number : ℕ
-  pub applies : Bool
+-- the trades so far: the lines in the order added, how many there may be, and the search for a key
+pub record Ledger : Type 0 where
+  pub lines : List Line
+  pub limit : ℕ
+  pub search : List ℕ → Found
 
-abbrev pub says : ℕ → Bool → Case
-says n applies = record { number = n; applies = applies }
+-- the phase, the sheet of the day, the trades so far
+pub record Basis : Type 0 where
+  pub phase : ℕ
+  pub sheet : List Listing
+  pub ledger : Ledger
 
--- the lowest that applies, of cases in rising order; 0 if none does
-abbrev pub lowest : List Case → ℕ
-lowest [] = 0
-lowest (c ∷ cs) = cond (c .applies) (c .number) (lowest cs)
+-- lines that are searched in the order added, up to the first that bears the key
+abbrev pub searched : List Line → ℕ → Ledger
+searched ls limit = record { lines = ls; limit = limit; search = λ (key : List ℕ). lineWith key ls }
 
--- 17 goes first
-abbrev pub inBook : Bool → List Case → ℕ
-inBook sound cases = cond sound (lowest cases) 17
+-- of lent rooms of which so many lines, and so many rows, are in use
+abbrev pub ledgerIn : List ℕ → ℕ → Ledger
+ledgerIn lines used = searched (usedLines lines used) (lineLimit (length lines))
 
--- ---- what is asked of lines and symbols
+abbrev pub basisIn : ℕ → List ℕ → ℕ → List ℕ → ℕ → Basis
+basisIn phase rows listed lines used = record { phase = phase; sheet = usedSheet rows listed; ledger = ledgerIn lines used }
+
+-- ---- what is asked of lines and listings
 
 abbrev pub isFound : Found → Bool
 isFound Nothing = false
 isFound (At i) = true
 
--- some line bears the key
-abbrev pub borne : List ℕ → List Line → Bool
-borne key ls = isFound (lineWith key ls)
-
--- the first line that bears the key is there and is dead
+-- the line that was found is there and is dead
 abbrev pub deadAt : List Line → Found → Bool
 deadAt ls Nothing = false
 deadAt ls (At i) = not (getD ls i noLine .live)
@@ -57,63 +63,42 @@ abbrev pub differsAt : Record → List Line → Found → Bool
 differsAt r ls Nothing = false
 differsAt r ls (At i) = not (matches r (getD ls i noLine))
 
--- the listed symbols, in the order listed
-abbrev pub symbolsOf : List Row → List (List ℕ)
-symbolsOf rs = map (λ (r : Row). r .symbol) rs
+-- a listing of the symbol is on the sheet
+abbrev pub isListed : List ℕ → List Listing → Bool
+isListed symbol sheet = isFound (listingOf symbol sheet)
 
-abbrev pub listed : List ℕ → List (List ℕ) → Bool
-listed symbol [] = false
-listed symbol (s ∷ ss) = same s symbol || listed symbol ss
-
--- ---- messages
+-- ---- the table
 
 -- number is 0 or above 4,294,967,295; below the wanted one; above the wanted one
 unfoldable pub numberTable : ℕ → ℕ → List Case
 numberTable wanted n =
-    says 1 (eqb n 0 || ltb 4294967295 n)
+    says 1 (eqb n 0 || ltb lastNumber n)
     ∷ says 2 (ltb n wanted)
     ∷ says 3 (ltb wanted n)
     ∷ []
 
--- `symbols` are the listed ones, `lines` those used, in the order added, of which there may be `limit`
-unfoldable pub contentTable : ℕ → List (List ℕ) → List Line → ℕ → Reading → List Case
-contentTable phase symbols lines limit q =
+unfoldable pub contentTable : Basis → Reading → List Case
+contentTable b q =
     let r = q .found in
+    let kind = kindIn r in
+    let lines = b .ledger .lines in
+    let named = b .ledger .search (oldKey r) in
     -- no such type, or not its length
-    says 4 (eqb (numberOf (q .answer)) 4)
+    spends 4 (eqb (numberOf (q .answer)) 4)
     -- a field breaks its rule
-    ∷ says 5 (eqb (numberOf (q .answer)) 5)
+    ∷ spends 5 (eqb (numberOf (q .answer)) 5)
     -- event or message not due in this phase
-    ∷ says 6 (not (due phase r))
+    ∷ spends 6 (not (due (b .phase) kind (r .event)))
     -- symbol not listed
-    ∷ says 7 (not (isEvent r) && not (listed (r .symbol) symbols))
+    ∷ spends 7 (not (isEvent kind) && not (isListed (r .symbol) (b .sheet)))
     -- X, C: no line bears the original's key
-    ∷ says 8 (namesOld r && not (borne (oldKey r) lines))
+    ∷ spends 8 (namesOld kind && not (isFound named))
     -- X, C: that line is dead
-    ∷ says 9 (namesOld r && deadAt lines (lineWith (oldKey r) lines))
+    ∷ spends 9 (namesOld kind && deadAt lines named)
     -- X, C: symbol, price, size or condition differs from the line
-    ∷ says 10 (namesOld r && differsAt r lines (lineWith (oldKey r) lines))
+    ∷ spends 10 (namesOld kind && differsAt r lines named)
     -- T, C: the new key is on a line already
-    ∷ says 11 (makesNew r && borne (newKey r) lines)
+    ∷ spends 11 (makesNew kind && isFound (b .ledger .search (newKey kind r)))
     -- T, C: every line is used
-    ∷ says 12 (makesNew r && leb limit (length lines))
+    ∷ spends 12 (makesNew kind && leb (b .ledger .limit) (length lines))
     ∷ []
-
--- ---- listings
-
-unfoldable pub listTable : ℕ → List (List ℕ) → ℕ → List ℕ → ℕ → List Case
-listTable wanted symbols limit symbol close =
-    -- symbol or close breaks its rule
-    says 13 (not (text symbol) || ltb 2000000000 close)
-    -- a number was used up already
-    ∷ says 14 (not (eqb wanted 1))
-    -- symbol listed already
-    ∷ says 15 (listed symbol symbols)
-    -- every row is used
-    ∷ says 16 (leb limit (length symbols))
-    ∷ []
-
--- ---- reading a row
-
-abbrev pub rowTable : List (List ℕ) → List ℕ → List Case
-rowTable symbols symbol = says 7 (not (listed symbol symbols)) ∷ []

@@ -3,8 +3,8 @@
 -- Assumes nothing.
 use Prim.Native.Nat.{ℕ}
 use mathlib.Core.List.{List}
-use mathlib.Core.Bool.{cond}
-use lib.Dec.{eqb, ltb, leb}
+use mathlib.Core.Bool.{Bool, cond}
+use lib.Dec.{eqb, leb}
 use lib.ListN.{length, getD}
 use Rattle.answers.specs.Answers.{numberOf, answerOf}
 use Rattle.answers.specs.declared.Answer.{Answer}
@@ -12,12 +12,16 @@ use Rattle.records.specs.declared.Record.{Record}
 use Rattle.message.specs.declared.Reading.{Reading}
 use Rattle.cells.specs.declared.Found.{Found}
 use Rattle.cells.specs.declared.Found.the-variants.{Nothing, At}
+use Rattle.kinds.specs.declared.Kind.{Kind}
+use Rattle.kinds.specs.Kinds.{isEvent, namesOld, makesNew}
 use Rattle.lines.specs.declared.Line.{Line}
-use Rattle.lines.specs.Lines.{lineWith, noLine}
-use Rattle.rows.specs.declared.Row.{Row}
-use Rattle.rows.specs.Rows.{rowWith}
+use Rattle.lines.specs.Lines.{noLine}
+use Rattle.rows.specs.declared.Listing.{Listing}
+use Rattle.rows.specs.Rows.{listingOf}
+use Rattle.counters.specs.Phases.{due}
+use Rattle.keys.specs.Keys.{oldKey, newKey, matches}
 use Rattle.table.specs.declared.Verdict.{Verdict}
-use Rattle.keys.specs.Messages.{isEvent, namesOld, makesNew, trading, phaseOf, oldKey, newKey, matches}
+use Rattle.table.specs.Table.{Ledger, Basis}
 
 -- an answer that needs no row and no line
 abbrev pub plainly : Answer → Verdict
@@ -33,42 +37,46 @@ namedAt r ls Nothing = plainly (answerOf 8)
 namedAt r ls (At i) =
     cond (getD ls i noLine .live) (cond (matches r (getD ls i noLine)) (naming i) (plainly (answerOf 10))) (plainly (answerOf 9))
 
-unfoldable pub namedBy : Record → List Line → Verdict
-namedBy r ls = namedAt r ls (lineWith (oldKey r) ls)
+unfoldable pub namedBy : Ledger → Record → Verdict
+namedBy l r = namedAt r (l .lines) (l .search (oldKey r))
 
 -- ---- 11, 12 or 0
 
-abbrev pub madeAt : List Line → ℕ → Found → ℕ
-madeAt ls limit Nothing = cond (leb limit (length ls)) 12 0
-madeAt ls limit (At i) = 11
+abbrev pub madeAt : Bool → Found → ℕ
+madeAt full Nothing = cond full 12 0
+madeAt full (At i) = 11
 
-unfoldable pub madeBy : Record → List Line → ℕ → ℕ
-madeBy r ls limit = cond (makesNew r) (madeAt ls limit (lineWith (newKey r) ls)) 0
+unfoldable pub madeBy : Ledger → Kind → Record → ℕ
+madeBy l kind r = cond (makesNew kind) (madeAt (leb (l .limit) (length (l .lines))) (l .search (newKey kind r))) 0
 
 -- ---- 8 to 12 or 0
 
-abbrev pub thenMade : Record → List Line → ℕ → Verdict → Verdict
-thenMade r ls limit v =
-    cond (eqb (numberOf (v .answer)) 0) (record { answer = answerOf (madeBy r ls limit); row = 0; line = v .line }) v
+abbrev pub thenMade : Ledger → Kind → Record → Verdict → Verdict
+thenMade l kind r v =
+    cond (eqb (numberOf (v .answer)) 0) (record { answer = answerOf (madeBy l kind r); row = 0; line = v .line }) v
 
-unfoldable pub tradeBy : Record → List Line → ℕ → Verdict
-tradeBy r ls limit = cond (namesOld r) (thenMade r ls limit (namedBy r ls)) (plainly (answerOf (madeBy r ls limit)))
+unfoldable pub tradeBy : Ledger → Kind → Record → Verdict
+tradeBy l kind r = cond (namesOld kind) (thenMade l kind r (namedBy l r)) (plainly (answerOf (madeBy l kind r)))
 
--- ---- 6 to 12 or 0
+-- ---- 7 to 12 or 0
 
 abbrev pub onRow : ℕ → Verdict → Verdict
 onRow i v = record { answer = v .answer; row = i; line = v .line }
 
-abbrev pub listedAt : Record → List Line → ℕ → Found → Verdict
-listedAt r ls limit Nothing = plainly (answerOf 7)
-listedAt r ls limit (At i) = onRow i (tradeBy r ls limit)
+abbrev pub listedAt : Ledger → Kind → Record → Found → Verdict
+listedAt l kind r Nothing = plainly (answerOf 7)
+listedAt l kind r (At i) = onRow i (tradeBy l kind r)
 
-unfoldable pub dueBy : ℕ → List Row → List Line → ℕ → Record → Verdict
-dueBy phase rows ls limit r =
-    cond (isEvent r) (cond (ltb phase (phaseOf (r .event))) (plainly (answerOf 0)) (plainly (answerOf 6)))
-    (cond (trading phase) (listedAt r ls limit (rowWith (r .symbol) rows)) (plainly (answerOf 6)))
+unfoldable pub listedBy : List Listing → Ledger → Kind → Record → Verdict
+listedBy sheet l kind r = listedAt l kind r (listingOf (r .symbol) sheet)
+
+-- ---- 6 to 12 or 0
+
+unfoldable pub dueBy : Basis → Kind → Record → Verdict
+dueBy b kind r =
+    cond (due (b .phase) kind (r .event)) (cond (isEvent kind) (plainly (answerOf 0)) (listedBy (b .sheet) (b .ledger) kind r)) (plainly (answerOf 6))
 
 -- ---- 4 to 12 or 0
 
-unfoldable pub judgedBy : ℕ → List Row → List Line → ℕ → Reading → Verdict
-judgedBy phase rows ls limit q = cond (eqb (numberOf (q .answer)) 0) (dueBy phase rows ls limit (q .found)) (plainly (q .answer))
+unfoldable pub judgedBy : Basis → Kind → Reading → Verdict
+judgedBy b kind q = cond (eqb (numberOf (q .answer)) 0) (dueBy b kind (q .found)) (plainly (q .answer))

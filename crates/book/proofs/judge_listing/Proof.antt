@@ -1,13 +1,31 @@
 -- `book::judge_listing` meets its contract.
 -- Assumes nothing.
-use mathlib.Core.Path.{ap, sym, _∙_}
+use mathlib.Core.Path.{_≡_, ap, sym, _∙_}
 use mathlib.Core.Bool.{Bool, true, false, _&&_}
-use lib.Dec.{leb}
 use borrow.Author.Tests.{le-leb, lt-leb}
+use lib.Dec.{leb}
+use Rattle.texts.specs.Text.{text}
+use Rattle.book.specs.State.{State, lent, soundIn}
+use Rattle.book.specs.Calls.{closeTop}
 use Rattle.book.proofs.Steps.{list-unsound, list-broken, list-late, list-there, list-new}
 use borrow.Author.Needs.{needs}
 use Rattle.book.proofs.judge_listing.Statement.{statement}
 use Rattle.book.proofs.judge_listing.Tie as tie
+
+abbrev state : tie.Start → State
+state s = lent (s .args .c) (s .args .rows .now) (s .args .lines .now)
+
+abbrev asked : tie.Then2 → tie.Then1
+asked c = c .before .before .before .before
+
+abbrev start : tie.Then1 → tie.Start
+start c = c .before .before .before .before .before
+
+safe : (c : tie.Then1) → soundIn (state (start c)) ≡ true
+safe c = sym (c .before .is-sound .ensures) ∙ c .if1 .taken
+
+keeps : (c : tie.Then2) → (text (start (asked c) .args .l .symbol) && leb (start (asked c) .args .l .close) closeTop) ≡ true
+keeps c = ap (λ (b : Bool). b && leb (start (asked c) .args .l .close) closeTop) (sym (c .before .before .is-text .ensures)) ∙ c .if2 .taken
 
 is-sound-requires : tie.Need-is-sound-requires
 is-sound-requires c κs = search needs
@@ -20,8 +38,9 @@ is-text-requires c κs = search needs
 
 returns : tie.Need-returns
 returns c =
-    let a = c .before .before .before .before .before .before .before .before .before .args in
-    list-late (a .c) (a .rows .now) (a .lines .now) (a .t4) (a .close) (sym (c .before .before .before .before .before .before .is-sound .ensures) ∙ c .before .before .before .before .before .if1 .taken) (ap (λ (b : Bool). b && leb (a .close) 2000000000) (sym (c .before .before .before .is-text .ensures)) ∙ c .before .before .if2 .taken) (c .if3 .taken)
+    let kept = c .before .before in
+    let s = start (asked kept) in
+    list-late (state s) (s .args .l) (safe (asked kept)) (keeps kept) (c .if3 .taken)
 
 find-requires : tie.Need-find-requires
 find-requires c κs = search needs
@@ -37,28 +56,35 @@ enum-known-i c = search needs
 
 returns-2 : tie.Need-returns-2
 returns-2 c =
-    let a = c .before .before .before .before .before .before .before .before .before .before .before .before .before .before .before .args in
-    list-new (a .c) (a .rows .now) (a .lines .now) (a .t4) (a .close) (sym (c .before .before .before .before .before .before .before .before .before .before .before .before .is-sound .ensures) ∙ c .before .before .before .before .before .before .before .before .before .before .before .if1 .taken) (ap (λ (b : Bool). b && leb (a .close) 2000000000) (sym (c .before .before .before .before .before .before .before .before .before .is-text .ensures)) ∙ c .before .before .before .before .before .before .before .before .if2 .taken) (c .before .before .before .before .before .before .if3 .left) (sym (c .before .before .before .before .before .find .ensures) ∙ c .before .before .before .enum-told .given .1) true (le-leb _ _ (rw (c .before .before .limit .ensures) at (c .if4 .taken)))
+    let looked = c .before .before .before .before .before in
+    let kept = looked .before .before .before in
+    let s = start (asked kept) in
+    list-new (state s) (s .args .l) (safe (asked kept)) (keeps kept) (looked .before .if3 .left) (sym (looked .find .ensures) ∙ c .before .before .before .enum-told .given .1) true (le-leb _ _ (rw (c .before .before .limit .ensures) at (c .if4 .taken)))
 
 returns-3 : tie.Need-returns-3
 returns-3 c =
-    let a = c .before .before .before .before .before .before .before .before .before .before .before .before .before .before .before .args in
-    list-new (a .c) (a .rows .now) (a .lines .now) (a .t4) (a .close) (sym (c .before .before .before .before .before .before .before .before .before .before .before .before .is-sound .ensures) ∙ c .before .before .before .before .before .before .before .before .before .before .before .if1 .taken) (ap (λ (b : Bool). b && leb (a .close) 2000000000) (sym (c .before .before .before .before .before .before .before .before .before .is-text .ensures)) ∙ c .before .before .before .before .before .before .before .before .if2 .taken) (c .before .before .before .before .before .before .if3 .left) (sym (c .before .before .before .before .before .find .ensures) ∙ c .before .before .before .enum-told .given .1) false (lt-leb _ _ (rw (c .before .before .limit .ensures) at (c .if4 .left)))
+    let looked = c .before .before .before .before .before in
+    let kept = looked .before .before .before in
+    let s = start (asked kept) in
+    list-new (state s) (s .args .l) (safe (asked kept)) (keeps kept) (looked .before .if3 .left) (sym (looked .find .ensures) ∙ c .before .before .before .enum-told .given .1) false (lt-leb _ _ (rw (c .before .before .limit .ensures) at (c .if4 .left)))
 
 returns-4 : tie.Need-returns-4
 returns-4 c =
-    let a = c .before .before .before .before .before .before .before .before .before .before .before .before .before .args in
-    list-there (a .c) (a .rows .now) (a .lines .now) (a .t4) (a .close) (sym (c .before .before .before .before .before .before .before .before .before .before .is-sound .ensures) ∙ c .before .before .before .before .before .before .before .before .before .if1 .taken) (ap (λ (b : Bool). b && leb (a .close) 2000000000) (sym (c .before .before .before .before .before .before .before .is-text .ensures)) ∙ c .before .before .before .before .before .before .if2 .taken) (c .before .before .before .before .if3 .left) _ (sym (c .before .before .before .find .ensures) ∙ c .before .i .given .1)
+    let looked = c .before .before .before in
+    let kept = looked .before .before .before in
+    let s = start (asked kept) in
+    list-there (state s) (s .args .l) (safe (asked kept)) (keeps kept) (looked .before .if3 .left) _ (sym (looked .find .ensures) ∙ c .before .i .given .1)
 
 returns-5 : tie.Need-returns-5
 returns-5 c =
-    let a = c .before .before .before .before .before .before .before .args in
-    list-broken (a .c) (a .rows .now) (a .lines .now) (a .t4) (a .close) (sym (c .before .before .before .before .is-sound .ensures) ∙ c .before .before .before .if1 .taken) (ap (λ (b : Bool). b && leb (a .close) 2000000000) (sym (c .before .is-text .ensures)) ∙ c .if2 .left)
+    let asked = c .before .before .before .before in
+    let s = asked .before .before .before .before .before in
+    list-broken (state s) (s .args .l) (sym (asked .before .is-sound .ensures) ∙ asked .if1 .taken) (ap (λ (b : Bool). b && leb (s .args .l .close) closeTop) (sym (c .before .before .is-text .ensures)) ∙ c .if2 .left)
 
 returns-6 : tie.Need-returns-6
 returns-6 c =
-    let a = c .before .before .before .before .args in
-    list-unsound (a .c) (a .rows .now) (a .lines .now) (a .t4) (a .close) (sym (c .before .is-sound .ensures) ∙ c .if1 .left)
+    let s = c .before .before .before .before .before in
+    list-unsound (state s) (s .args .l) (sym (c .before .is-sound .ensures) ∙ c .if1 .left)
 
 pub judge-listing-spec : {M : Type 1} → statement M
 judge-listing-spec =

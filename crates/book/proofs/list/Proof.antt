@@ -1,16 +1,19 @@
 -- `book::list` meets its contract.
 -- Assumes nothing.
-use mathlib.Core.Path.{_≡_, sym, _∙_}
-use native.Mathlib.Omega.{arith}
-use lib.ListN.{length}
-use Rattle.book.proofs.Steps.{list-refused, list-fits, list-said, list-rows}
+use mathlib.Core.Path.{sym, _∙_}
+use Rattle.book.specs.State.{State, lent}
+use Rattle.book.proofs.Steps.{list-refused, list-done}
+use Rattle.rows.specs.Changed.{ListingFits}
 use borrow.Author.Needs.{needs}
 use Rattle.book.proofs.list.Statement.{statement}
 use Rattle.book.proofs.list.Tie as tie
 
--- a listed symbol is eight bytes
-pub entered : (c : tie.Start) → length (c .args .symbol) ≡ 8
-entered c = search needs
+-- a listed symbol is eight bytes, and its close fits four
+pub entered : (s : tie.Start) → ListingFits (s .args .l)
+entered s = record { symbol = search needs; close = search needs }
+
+abbrev state : tie.Start → State
+state s = lent (s .args .c) (s .args .rows .now) (s .args .lines .now)
 
 judge-listing-requires : tie.Need-judge-listing-requires
 judge-listing-requires c κs = search needs
@@ -23,24 +26,25 @@ same-length c = search needs
 
 returns : tie.Need-returns
 returns c =
-    let a = c .before .before .before .before .before .before .args in
-    list-refused (a .c) (a .rows .now) (a .lines .now) (a .symbol) (a .close) _ (c .before .before .judge-listing .ensures) (λ e. c .if1 .taken (c .before .number .ensures ∙ e))
+    let judged = c .before .before in
+    let s = judged .before .before .before .before in
+    list-refused (state s) (s .args .l) _ (judged .judge-listing .ensures) (λ e. c .if1 .taken (c .before .number .ensures ∙ e))
 
 put-requires : tie.Need-put-requires
 put-requires c κs = search needs
 
 add-row-requires : tie.Need-add-row-requires
-add-row-requires c κs =
-    let a = c .before .before .before .before .before .before .before .before .before .before .args in
-    omega (arith, list-fits (a .c) (a .rows .now) (a .lines .now) (a .symbol) (a .close) _ (c .before .before .before .before .before .before .judge-listing .ensures) (sym (c .before .before .before .before .before .number .ensures) ∙ c .before .before .before .before .if1 .left))
+add-row-requires c κs = search needs
 
 same-length-2 : tie.Need-same-length-2
 same-length-2 c = search needs
 
 returns-2 : tie.Need-returns-2
 returns-2 c =
-    let z = sym (c .before .before .before .before .before .before .number .ensures) ∙ c .before .before .before .before .before .if1 .left in
-    (list-said (c .before .before .before .before .before .before .before .before .before .before .before .args .c) (c .before .before .before .before .before .before .before .before .before .before .before .args .rows .now) (c .before .before .before .before .before .before .before .before .before .before .before .args .lines .now) (c .before .before .before .before .before .before .before .before .before .before .before .args .symbol) (c .before .before .before .before .before .before .before .before .before .before .before .args .close) _ (c .before .before .before .before .before .before .before .judge-listing .ensures) z _ (c .add-row .ensures), list-rows (c .before .before .before .before .before .before .before .before .before .before .before .args .c) (c .before .before .before .before .before .before .before .before .before .before .before .args .rows .now) (c .before .before .before .before .before .before .before .before .before .before .before .args .lines .now) (c .before .before .before .before .before .before .before .before .before .before .before .args .symbol) (c .before .before .before .before .before .before .before .before .before .before .before .args .close) _ (c .before .before .before .before .before .before .before .judge-listing .ensures) z _ (c .before .before .before .put .ensures))
+    let taken = c .before .before .before .before .before in
+    let judged = taken .before .before in
+    let s = judged .before .before .before .before in
+    list-done (state s) (s .args .l) _ (judged .judge-listing .ensures) (sym (taken .before .number .ensures) ∙ taken .if1 .left) _ _ (c .add-row .ensures) (c .before .before .before .put .ensures)
 
 pub list-spec : {M : Type 1} → statement M
 list-spec =

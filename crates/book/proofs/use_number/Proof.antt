@@ -2,25 +2,25 @@
 -- Assumes nothing.
 use mathlib.Core.Path.{sym, _∙_}
 use native.Mathlib.Omega.{arith}
-use lib.ListN.{length}
-use Rattle.book.specs.Counting.{sound}
-use Rattle.book.specs.Calls.{numberAnswer}
-use Rattle.book.proofs.Sound.{Within, sound-gives}
 use Rattle.table.proofs.Tables.{Wanted, number-wanted}
-use Rattle.book.proofs.Steps.{refused-said, refused-rows, refused-lines, taken-said, taken-rows, taken-lines}
+use Rattle.book.specs.State.{State, lent, wantedIn, soundIn}
+use Rattle.book.proofs.Steps.{refused-here, taken-here}
 use borrow.Author.Needs.{needs}
 use Rattle.book.proofs.use_number.Statement.{statement}
 use Rattle.book.proofs.use_number.Tie as tie
 
-wanted-now : (s : tie.Start) → Wanted (sound (s .args .c) (length (s .args .rows .now)) (length (s .args .lines .now))) (s .args .c .wanted) (s .args .c .wanted)
-unfolding numberAnswer
-wanted-now s = number-wanted (sound (s .args .c) (length (s .args .rows .now)) (length (s .args .lines .now))) (s .args .c .wanted) (s .args .c .wanted) .0 (s .pre)
+abbrev state : tie.Start → State
+state s = lent (s .args .c) (s .args .rows .now) (s .args .lines .now)
 
-within : (s : tie.Start) → Within (s .args .c) (length (s .args .rows .now)) (length (s .args .lines .now))
-within s = sound-gives (s .args .c) (length (s .args .rows .now)) (length (s .args .lines .now)) (wanted-now s .sound)
+-- the number is one that a message may bear
+wanted-now : (s : tie.Start) → Wanted (soundIn (state s)) (wantedIn (state s)) (wantedIn (state s))
+wanted-now s = number-wanted (soundIn (state s)) (wantedIn (state s)) (wantedIn (state s)) .0 (s .pre)
 
 read-requires : tie.Need-read-requires
 read-requires c κs = search needs
+
+kind-of-requires : tie.Need-kind-of-requires
+kind-of-requires c κs = search needs
 
 judge-requires : tie.Need-judge-requires
 judge-requires c κs = search needs
@@ -29,7 +29,7 @@ number-requires : tie.Need-number-requires
 number-requires c κs = search needs
 
 use-up-requires : tie.Need-use-up-requires
-use-up-requires c κs = omega (arith, wanted-now (c .before .before .before .before .before .before .before .before .before) .greatest)
+use-up-requires c κs = search needs
 
 same-length : tie.Need-same-length
 same-length c = search needs
@@ -39,10 +39,17 @@ same-length-2 c = search needs
 
 returns : tie.Need-returns
 returns c =
-    (refused-said (c .before .before .before .before .before .before .before .before .before .before .args .c) (c .before .before .before .before .before .before .before .before .before .before .args .rows .now) (c .before .before .before .before .before .before .before .before .before .before .args .lines .now) (c .before .before .before .before .before .before .before .before .before .before .args .message .now) (wanted-now (c .before .before .before .before .before .before .before .before .before .before)) _ (c .before .before .before .before .before .before .read .ensures) _ (c .before .before .before .judge .ensures) (λ e. c .before .if1 .taken (c .before .before .number .ensures ∙ e)) _ (c .use-up .ensures), (refused-rows (c .before .before .before .before .before .before .before .before .before .before .args .c) (c .before .before .before .before .before .before .before .before .before .before .args .rows .now) (c .before .before .before .before .before .before .before .before .before .before .args .lines .now) (c .before .before .before .before .before .before .before .before .before .before .args .message .now) (wanted-now (c .before .before .before .before .before .before .before .before .before .before)) _ (c .before .before .before .before .before .before .read .ensures) _ (c .before .before .before .judge .ensures) (λ e. c .before .if1 .taken (c .before .before .number .ensures ∙ e)), refused-lines (c .before .before .before .before .before .before .before .before .before .before .args .c) (c .before .before .before .before .before .before .before .before .before .before .args .rows .now) (c .before .before .before .before .before .before .before .before .before .before .args .lines .now) (c .before .before .before .before .before .before .before .before .before .before .args .message .now) (wanted-now (c .before .before .before .before .before .before .before .before .before .before)) _ (c .before .before .before .before .before .before .read .ensures) _ (c .before .before .before .judge .ensures) (λ e. c .before .if1 .taken (c .before .before .number .ensures ∙ e))))
+    let judged = c .before .before .before in
+    let kinded = judged .before .before .before in
+    let got = kinded .before .before in
+    let s = got .before .before .before .before in
+    refused-here (state s) (s .args .message .now) (wanted-now s) _ (got .read .ensures) _ (kinded .kind-of .ensures) _ (judged .judge .ensures) (λ e. c .before .if1 .taken (c .before .before .number .ensures ∙ e)) _ (c .use-up .ensures)
 
 cast-take-lines : tie.Need-cast-take-lines
-cast-take-lines c = omega (arith, wanted-now (c .before .before .before .before .before .before .before .before .before .before .before .before) .greatest)
+cast-take-lines c =
+    let kinded = c .before .before .before .before .before .before .before in
+    let s = kinded .before .before .before .before .before .before in
+    omega (arith, wanted-now s .greatest)
 
 take-lines-requires : tie.Need-take-lines-requires
 take-lines-requires c κs = search needs
@@ -51,7 +58,7 @@ take-rows-requires : tie.Need-take-rows-requires
 take-rows-requires c κs = search needs
 
 take-requires : tie.Need-take-requires
-take-requires c κs = (omega (arith, wanted-now (c .before .before .before .before .before .before .before .before .before .before .before .before .before .before .before .before .before .before .before) .greatest), omega (arith, wanted-now (c .before .before .before .before .before .before .before .before .before .before .before .before .before .before .before .before .before .before .before) .greatest, within (c .before .before .before .before .before .before .before .before .before .before .before .before .before .before .before .before .before .before .before) .takenFit), omega (arith, within (c .before .before .before .before .before .before .before .before .before .before .before .before .before .before .before .before .before .before .before) .linesFit))
+take-requires c κs = search needs
 
 same-length-3 : tie.Need-same-length-3
 same-length-3 c = search needs
@@ -61,14 +68,21 @@ same-length-4 c = search needs
 
 returns-2 : tie.Need-returns-2
 returns-2 c =
-    let z = (sym (c .before .before .before .before .before .before .before .before .before .before .before .before .number .ensures) ∙ c .before .before .before .before .before .before .before .before .before .before .before .if1 .left) in
-    (taken-said (c .before .before .before .before .before .before .before .before .before .before .before .before .before .before .before .before .before .before .before .before .args .c) (c .before .before .before .before .before .before .before .before .before .before .before .before .before .before .before .before .before .before .before .before .args .rows .now) (c .before .before .before .before .before .before .before .before .before .before .before .before .before .before .before .before .before .before .before .before .args .lines .now) (c .before .before .before .before .before .before .before .before .before .before .before .before .before .before .before .before .before .before .before .before .args .message .now) (wanted-now (c .before .before .before .before .before .before .before .before .before .before .before .before .before .before .before .before .before .before .before .before)) _ (c .before .before .before .before .before .before .before .before .before .before .before .before .before .before .before .before .read .ensures) _ (c .before .before .before .before .before .before .before .before .before .before .before .before .before .judge .ensures) z _ (c .take .ensures), (taken-rows (c .before .before .before .before .before .before .before .before .before .before .before .before .before .before .before .before .before .before .before .before .args .c) (c .before .before .before .before .before .before .before .before .before .before .before .before .before .before .before .before .before .before .before .before .args .rows .now) (c .before .before .before .before .before .before .before .before .before .before .before .before .before .before .before .before .before .before .before .before .args .lines .now) (c .before .before .before .before .before .before .before .before .before .before .before .before .before .before .before .before .before .before .before .before .args .message .now) (wanted-now (c .before .before .before .before .before .before .before .before .before .before .before .before .before .before .before .before .before .before .before .before)) _ (c .before .before .before .before .before .before .before .before .before .before .before .before .before .before .before .before .read .ensures) _ (c .before .before .before .before .before .before .before .before .before .before .before .before .before .judge .ensures) z _ (c .before .before .before .take-rows .ensures), taken-lines (c .before .before .before .before .before .before .before .before .before .before .before .before .before .before .before .before .before .before .before .before .args .c) (c .before .before .before .before .before .before .before .before .before .before .before .before .before .before .before .before .before .before .before .before .args .rows .now) (c .before .before .before .before .before .before .before .before .before .before .before .before .before .before .before .before .before .before .before .before .args .lines .now) (c .before .before .before .before .before .before .before .before .before .before .before .before .before .before .before .before .before .before .before .before .args .message .now) (wanted-now (c .before .before .before .before .before .before .before .before .before .before .before .before .before .before .before .before .before .before .before .before)) _ (c .before .before .before .before .before .before .before .before .before .before .before .before .before .before .before .before .read .ensures) _ (c .before .before .before .before .before .before .before .before .before .before .before .before .before .judge .ensures) z _ (c .before .before .before .before .before .before .before .take-lines .ensures)))
+    let kept = c .before .before .before in
+    let put = kept .before .before .before .before in
+    let taken = put .before .before .before in
+    let judged = taken .before .before in
+    let kinded = judged .before .before .before in
+    let got = kinded .before .before in
+    let s = got .before .before .before .before in
+    taken-here (state s) (s .args .message .now) (wanted-now s) _ (got .read .ensures) _ (kinded .kind-of .ensures) _ (judged .judge .ensures) (sym (taken .before .number .ensures) ∙ taken .if1 .left) _ _ _ (c .take .ensures) (kept .take-rows .ensures) (put .take-lines .ensures)
 
 pub use-number-spec : {M : Type 1} → statement M
 use-number-spec =
     tie.close
     (tie.spec
     read-requires
+    kind-of-requires
     judge-requires
     number-requires
     use-up-requires

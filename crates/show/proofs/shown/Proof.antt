@@ -16,7 +16,7 @@ agrees-with-requires c κs = search needs
 
 returns : tie.Need-returns
 unfolding shownOf
-returns c = simp (c .agrees-with .ensures, c .before .net-of .ensures, c .before .before .before .last-of .ensures)
+returns c = simp (c .agrees-with .ensures, c .before .net-of .ensures, c .before .before .before .before .last-of .ensures)
 
 pub shown-spec : {M : Type 1} → statement M
 shown-spec = tie.close (tie.spec last-of-requires net-of-requires agrees-with-requires returns)

@@ -1,16 +1,31 @@
 -- `table::judge_made` meets its contract.
 -- Assumes nothing.
-use mathlib.Core.Path.{ap, sym, _∙_}
-use mathlib.Core.List.{List}
+use mathlib.Core.Path.{_≡_, sym, _∙_}
 use mathlib.Core.Bool.{true, false}
-use Prim.Native.Nat.{ℕ}
 use borrow.Author.Tests.{le-leb, lt-leb}
+use Rattle.cells.specs.declared.Found.{Found}
+use Rattle.kinds.specs.Kinds.{makesNew}
 use Rattle.lines.specs.Lines.{usedLines, lineWith}
+use Rattle.keys.specs.Keys.{newKey}
 use Rattle.table.specs.Working.{madeBy}
-use Rattle.table.proofs.Laws.{made-none, made-found}
+use Rattle.table.proofs.Laws.{found-for, made-none, made-found}
 use borrow.Author.Needs.{needs}
 use Rattle.table.proofs.judge_made.Statement.{statement}
 use Rattle.table.proofs.judge_made.Tie as tie
+
+abbrev start : tie.After-find → tie.Start
+start c = c .before .before .before .before .before
+
+makes : (c : tie.After-find) → makesNew (start c .args .kind) ≡ true
+makes c = sym (c .before .before .before .makes-new .ensures) ∙ c .before .before .if1 .taken
+
+-- what the search for the new key found
+made : (c : tie.After-find) {f : Found} → c .find .result ≡ f
+    → lineWith (newKey (start c .args .kind) (start c .args .r)) (usedLines (start c .args .lines .now) (start c .args .used)) ≡ f
+made c e = found-for _ _ _ _ _ (c .find .ensures) (c .before .new-key .ensures) e
+
+makes-new-requires : tie.Need-makes-new-requires
+makes-new-requires c κs = search needs
 
 new-key-requires : tie.Need-new-key-requires
 new-key-requires c κs = search needs
@@ -29,27 +44,31 @@ enum-known-i c = search needs
 
 returns : tie.Need-returns
 returns c =
-    let a = c .before .before .before .before .before .before .before .before .before .before .args in
-    made-none (a .r) (a .lines .now) (a .used) (c .before .before .before .before .before .before .if1 .taken) (sym (c .before .before .before .before .find .ensures ∙ ap (λ (k : List ℕ). lineWith k (usedLines (a .lines .now) (a .used))) (c .before .before .before .before .before .new-key .ensures)) ∙ c .before .before .enum-told .given .1) true (le-leb _ _ (rw (c .before .limit .ensures) at (c .if2 .taken)))
+    let found = c .before .before .before .before in
+    let a = start found .args in
+    made-none (a .kind) (a .r) (a .lines .now) (a .used) (makes found) (made found (c .before .before .enum-told .given .1)) true (le-leb _ _ (rw (c .before .limit .ensures) at (c .if2 .taken)))
 
 returns-2 : tie.Need-returns-2
 returns-2 c =
-    let a = c .before .before .before .before .before .before .before .before .before .before .args in
-    made-none (a .r) (a .lines .now) (a .used) (c .before .before .before .before .before .before .if1 .taken) (sym (c .before .before .before .before .find .ensures ∙ ap (λ (k : List ℕ). lineWith k (usedLines (a .lines .now) (a .used))) (c .before .before .before .before .before .new-key .ensures)) ∙ c .before .before .enum-told .given .1) false (lt-leb _ _ (rw (c .before .limit .ensures) at (c .if2 .left)))
+    let found = c .before .before .before .before in
+    let a = start found .args in
+    made-none (a .kind) (a .r) (a .lines .now) (a .used) (makes found) (made found (c .before .before .enum-told .given .1)) false (lt-leb _ _ (rw (c .before .limit .ensures) at (c .if2 .left)))
 
 returns-3 : tie.Need-returns-3
 returns-3 c =
-    let a = c .before .before .before .before .before .before .before .before .before .args in
-    made-found (a .r) (a .lines .now) (a .used) (c .before .before .before .before .before .if1 .taken) _ (sym (c .before .before .before .find .ensures ∙ ap (λ (k : List ℕ). lineWith k (usedLines (a .lines .now) (a .used))) (c .before .before .before .before .new-key .ensures)) ∙ c .before .i .given .1)
+    let found = c .before .before .before in
+    let a = start found .args in
+    made-found (a .kind) (a .r) (a .lines .now) (a .used) (makes found) _ (made found (c .before .i .given .1))
 
 returns-4 : tie.Need-returns-4
 unfolding madeBy
-returns-4 c = simp (c .if1 .left)
+returns-4 c = simp (sym (c .before .makes-new .ensures) ∙ c .if1 .left)
 
 pub judge-made-spec : {M : Type 1} → statement M
 judge-made-spec =
     tie.close
     (tie.spec
+    makes-new-requires
     new-key-requires
     find-requires
     enum-told

@@ -1,0 +1,67 @@
+-- What a call is lent, and what it leaves: each is one record, so that a further room or a further word of the counters is one line here.
+-- Assumes nothing.
+use Prim.Native.Nat.{ℕ}
+use mathlib.Core.List.{List}
+use mathlib.Core.Bool.{Bool}
+use lib.ListN.{length}
+use Rattle.answers.specs.Answers.{numberOf}
+use Rattle.lines.specs.declared.Line.{Line}
+use Rattle.lines.specs.Lines.{usedLines}
+use Rattle.rows.specs.declared.Listing.{Listing}
+use Rattle.rows.specs.declared.Row.{Row}
+use Rattle.rows.specs.Rows.{usedRows, sheetIn}
+use Rattle.counters.specs.declared.Counters.{Counters}
+use Rattle.counters.specs.Counting.{sound, Unsound}
+use Rattle.table.specs.Table.{Basis, basisIn}
+use Rattle.book.specs.declared.Said.{Said}
+
+-- the counters, and the rooms for rows and for lines as they stand
+pub record State : Type 0 where
+  pub counters : Counters
+  pub rows : List ℕ
+  pub lines : List ℕ
+
+abbrev pub lent : Counters → List ℕ → List ℕ → State
+lent c rows lines = record { counters = c; rows = rows; lines = lines }
+
+-- the answer's number, and the state that is left
+pub record Outcome : Type 0 where
+  pub answer : ℕ
+  pub state : State
+
+-- what a call that told so, and left these rooms, comes to
+abbrev pub leaving : Said → List ℕ → List ℕ → Outcome
+leaving s rows lines = record { answer = numberOf (s .answer); state = lent (s .counters) rows lines }
+
+-- a message under its number, as it arrives
+pub record Arrival : Type 0 where
+  pub number : ℕ
+  pub message : List ℕ
+
+abbrev pub arrives : ℕ → List ℕ → Arrival
+arrives n m = record { number = n; message = m }
+
+-- ---- what stands in a state
+
+abbrev pub wantedIn : State → ℕ
+wantedIn s = s .counters .wanted
+
+abbrev pub rowsIn : State → List Row
+rowsIn s = usedRows (s .rows) (s .counters .rows)
+
+-- the sheet of the day
+abbrev pub sheetOf : State → List Listing
+sheetOf s = sheetIn (rowsIn s)
+
+abbrev pub linesIn : State → List Line
+linesIn s = usedLines (s .lines) (s .counters .lines)
+
+-- what the table of a message is worked from
+abbrev pub basisOf : State → Basis
+basisOf s = basisIn (s .counters .phase) (s .rows) (s .counters .rows) (s .lines) (s .counters .lines)
+
+abbrev pub soundIn : State → Bool
+soundIn s = sound (s .counters) (length (s .rows)) (length (s .lines))
+
+abbrev pub UnsoundIn : State → Type 0
+UnsoundIn s = Unsound (s .counters) (length (s .rows)) (length (s .lines))
