@@ -9,11 +9,14 @@ use native.Mathlib.Numerals.{add-one}
 use native.Mathlib.Omega.{arith}
 use borrow.Author.Tests.{eqb-true, eqb-false, ne-eqb}
 use lib.Dec.{eqb}
-use Rattle.table.specs.Table.{lowest, numberTable}
+use Rattle.answers.specs.Cases.{given}
+use Rattle.table.specs.Table.{numberTable}
+use Rattle.counters.specs.Counting.{lastNumber}
+use Rattle.book.specs.State.{Arrival, arrives}
 use Rattle.table.proofs.Tables.{number-wanted}
 use Rattle.clerk.specs.Steps.{Book, next, after, taking, usingUp, content}
 use Rattle.message.specs.Reading.{readOf}
-use Rattle.clerk.specs.Arrivals.{run, Largest, Arrival, numbers, Copies, upto, play, deliverEach}
+use Rattle.clerk.specs.Arrivals.{run, Largest, numbers, Copies, upto, play, deliverEach}
 
 -- ---- how many come in order
 
@@ -67,17 +70,19 @@ largest-one ks n k h g = omega (arith, h .most k (g .occurs), g .most n (h .occu
 -- ---- one arrival
 
 -- at the wanted number
-pub next-at : (limit : ℕ) (b : Book) (n : ℕ) (m : List ℕ) → 1 ≤ n → n ≤ 4294967295 → n ≡ b .wanted → next limit b n m ≡ after limit b m
+pub next-at : (limit : ℕ) (b : Book) (a : Arrival) → 1 ≤ a .number → a .number ≤ lastNumber → a .number ≡ b .wanted
+    → next limit b a ≡ after limit b (a .message)
 unfolding next
-next-at limit b n m l h e =
-    let w : lowest (numberTable (b .wanted) n) ≡ 0 = number-wanted true (b .wanted) n .1 (record { sound = refl; wanted = e; least = l; greatest = h }) in
+next-at limit b a l h e =
+    let w : given (numberTable (b .wanted) (a .number)) .number ≡ 0
+    = number-wanted true (b .wanted) (a .number) .1 (record { sound = refl; wanted = e; least = l; greatest = h }) in
     rw w
 
 -- at any other
-pub next-other : (limit : ℕ) (b : Book) (n : ℕ) (m : List ℕ) → (n ≡ b .wanted → ⊥) → next limit b n m ≡ b
+pub next-other : (limit : ℕ) (b : Book) (a : Arrival) → (a .number ≡ b .wanted → ⊥) → next limit b a ≡ b
 unfolding next
-next-other limit b n m ne =
-    let z = ne-eqb (lowest (numberTable (b .wanted) n)) 0 (λ e. ne (number-wanted true (b .wanted) n .0 e .wanted)) in
+next-other limit b a ne =
+    let z = ne-eqb (given (numberTable (b .wanted) (a .number)) .number) 0 (λ e. ne (number-wanted true (b .wanted) (a .number) .0 e .wanted)) in
     rw z
 
 pub after-wanted : (limit : ℕ) (b : Book) (m : List ℕ) → after limit b m .wanted ≡ suc (b .wanted)
@@ -90,7 +95,7 @@ after-wanted limit b m = go (eqb (content limit b m) 0)
 
 -- ---- all arrivals, from a book that wants 1
 
-module _ (limit : ℕ) (day : ℕ → List ℕ) (N : ℕ) (fits : N ≤ 4294967295) (b : Book) (fresh : b .wanted ≡ 1) where
+module _ (limit : ℕ) (day : ℕ → List ℕ) (N : ℕ) (fits : N ≤ lastNumber) (b : Book) (fresh : b .wanted ≡ 1) where
   -- the book that has used 1 to j
   abbrev upTo : ℕ → Book
   upTo j = play limit b (upto day j)
@@ -116,15 +121,15 @@ module _ (limit : ℕ) (day : ℕ → List ℕ) (N : ℕ) (fits : N ≤ 42949672
       go : (t : Bool) → eqb k (suc j) ≡ t
           → deliverEach limit (upTo (suc j)) l ≡ upTo (got (suc (suc j)) (numbers l) + suc j)
           → deliverEach limit (upTo j) l ≡ upTo (got (suc j) (numbers l) + j)
-          → deliverEach limit (next limit (upTo j) k (a .message)) l ≡ upTo (got (suc j) (k ∷ numbers l) + j)
+          → deliverEach limit (next limit (upTo j) a) l ≡ upTo (got (suc j) (k ∷ numbers l) + j)
       go true e more same =
           let q : k ≡ suc j = eqb-true k (suc j) e in
           let g : got (suc (suc j)) (numbers l) + suc j ≡ got (suc j) (k ∷ numbers l) + j = omega (arith, got-at (suc j) k (numbers l) e) in
           ap (λ (x : Book). deliverEach limit x l)
-          (next-at limit (upTo j) k (a .message) (omega arith) (omega (arith, c .0 .0)) (q ∙ sym (play-wanted j)) ∙ ap (after limit (upTo j)) (c .0 .1 (omega arith) ∙ ap day q) ∙ play-more j)
+          (next-at limit (upTo j) a (omega arith) (omega (arith, c .0 .0)) (q ∙ sym (play-wanted j)) ∙ ap (after limit (upTo j)) (c .0 .1 (omega arith) ∙ ap day q) ∙ play-more j)
           ∙ more
           ∙ ap upTo g
-      go false e more same = rw (next-other limit (upTo j) k (a .message) (λ q. eqb-false k (suc j) e (q ∙ play-wanted j)), got-other (suc j) k (numbers l) e) same
+      go false e more same = rw (next-other limit (upTo j) a (λ q. eqb-false k (suc j) e (q ∙ play-wanted j)), got-other (suc j) k (numbers l) e) same
 
   -- what the arrivals do is what playing 1 to n does
   pub used-exactly : (l : List Arrival) (n : ℕ) → Copies day N l → Largest (numbers l) n → deliverEach limit b l ≡ play limit b (upto day n)

@@ -1,14 +1,12 @@
 -- Lent bytes are bytes after a call too.
 -- Assumes nothing.
-use Prim.Native.Nat.{ℕ, zero, suc, _+_, _*_, _/_, _%_, _<_}
-use mathlib.Core.Bool.{Bool, true, false, cond}
-use mathlib.Core.List.{List, [], _∷_, _++_}
-use native.Mathlib.Omega.{arith}
-use lib.Dec.{eqb, ltb, lit<}
-use lib.ListN.{length, getD, set, replicate}
-use lib.Seq.{sets}
-use Rattle.octets.specs.Run.{tab, past, part, Bytes}
-use Rattle.numbers.specs.Number.{digits}
+use Prim.Native.Nat.{ℕ, _+_, _<_}
+use mathlib.Core.List.{List}
+use mathlib.Core.Bool.{cond}
+use lib.Dec.{eqb, lit<}
+use lib.ListN.{getD}
+use Rattle.octets.specs.Run.{Bytes}
+use Rattle.octets.proofs.Bytes.{either-way, cons-bytes, part-bytes, zeros-bytes}
 use Rattle.records.specs.declared.Sale.{Sale}
 use Rattle.records.specs.declared.Record.{Record}
 use Rattle.message.specs.declared.Reading.{Reading}
@@ -17,57 +15,15 @@ use Rattle.records.specs.Lawful.{lawfulOf}
 use Rattle.packed.specs.Packed.{saleAt}
 use Rattle.message.specs.Fields.{fieldsS, fieldsTrade, fieldsT, fieldsC, fieldsJ, fieldsOf}
 use Rattle.message.specs.Reading.{refusedOf, acceptedOf, judgedOf, misshapen, readOf}
+use Rattle.kinds.specs.declared.Kind.{Kind}
+use Rattle.kinds.specs.declared.Kind.the-variants.{Event, Trade, Cancel, Correction, Summary, Other}
 use Rattle.lines.specs.declared.Line.{Line}
-use Rattle.lines.specs.Lines.{lineLimit, lineBytes, mark, usedLines, lineWith, lineIn, withLine, withDead}
-use Rattle.keys.specs.Messages.{isTrade, isCancel, isCorrection, oldKey, newSale}
-use Rattle.take.specs.Taking.{madeLine, correctedLine, linesBy, indexOf}
-use Rattle.book.specs.declared.counters.Counters.{Counters}
-use Rattle.book.specs.Calls.{deliverAnswer, deliverLines}
-
--- whichever of two it is
-either-way : {A : Type 0} (P : A → Type 0) (t : Bool) (a b : A) → P a → P b → P (cond t a b)
-either-way P true a b p q = p
-either-way P false a b p q = q
-
--- ---- lists of bytes
-
-none-bytes : Bytes []
-none-bytes i = lit< tt
-
-cons-bytes : (x : ℕ) (xs : List ℕ) → x < 256 → Bytes xs → Bytes (x ∷ xs)
-cons-bytes x xs h b zero = h
-cons-bytes x xs h b (suc i) = b i
-
-append-bytes : (xs ys : List ℕ) → Bytes xs → Bytes ys → Bytes (xs ++ ys)
-append-bytes [] ys a b = b
-append-bytes (x ∷ xs) ys a b = cons-bytes x (xs ++ ys) (a 0) (append-bytes xs ys (λ i. a (suc i)) b)
-
-tab-bytes : (f : ℕ → ℕ) → ((i : ℕ) → f i < 256) → (i n : ℕ) → Bytes (tab f i n)
-unfolding tab
-tab-bytes f h i zero = none-bytes
-tab-bytes f h i (suc n) = cons-bytes (f i) (tab f (suc i) n) (h i) (tab-bytes f h (suc i) n)
-
-part-bytes : (m : List ℕ) (at n : ℕ) → Bytes m → Bytes (part m at n)
-unfolding part
-part-bytes m at n b = tab-bytes (past m at) (λ i. b (at + i)) 0 n
-
-digits-bytes : (n x : ℕ) → Bytes (digits n x)
-unfolding digits
-digits-bytes zero x = none-bytes
-digits-bytes (suc n) x = append-bytes (digits n (x / 256)) (x % 256 ∷ []) (digits-bytes n (x / 256)) (cons-bytes (x % 256) [] (omega arith) none-bytes)
-
-zeros-bytes : (n : ℕ) → Bytes (replicate n 0)
-zeros-bytes zero = none-bytes
-zeros-bytes (suc n) = cons-bytes 0 (replicate n 0) (lit< tt) (zeros-bytes n)
-
-set-bytes : (m : List ℕ) (at x : ℕ) → x < 256 → Bytes m → Bytes (set m at x)
-set-bytes [] at x h b = none-bytes
-set-bytes (y ∷ m) zero x h b = cons-bytes x m h (λ i. b (suc i))
-set-bytes (y ∷ m) (suc at) x h b = cons-bytes y (set m at x) (b 0) (set-bytes m at x h (λ i. b (suc i)))
-
-sets-bytes : (xs m : List ℕ) (at : ℕ) → Bytes xs → Bytes m → Bytes (sets m at xs)
-sets-bytes [] m at a b = b
-sets-bytes (x ∷ xs) m at a b = sets-bytes xs (set m at x) (suc at) (λ i. a (suc i)) (set-bytes m at x (a 0) b)
+use Rattle.lines.specs.Lines.{lineBytes, lineIn, withDead}
+use Rattle.lines.proofs.Bytes.{line-bytes, with-line-bytes, with-dead-bytes}
+use Rattle.keys.specs.Keys.{kindIn}
+use Rattle.take.specs.Taking.{madeLine, correctedLine, linesBy}
+use Rattle.book.specs.State.{State, Arrival, wantedIn}
+use Rattle.book.specs.Calls.{messageGiven, lineNamed, taking, spent, delivered}
 
 -- ---- what is read from bytes
 
@@ -112,50 +68,29 @@ read-bytes m b =
 
 -- ---- what is stored
 
-line-bytes : (l : Line) → Bytes (l .key) → Bytes (l .symbol) → Bytes (l .condition) → Bytes (lineBytes l)
-unfolding lineBytes
-line-bytes l k s c =
-    append-bytes (l .key) _ k
-    (append-bytes (l .symbol) _ s
-    (append-bytes (digits 4 (l .price)) _ (digits-bytes 4 (l .price))
-    (append-bytes (digits 4 (l .size)) _ (digits-bytes 4 (l .size))
-    (append-bytes (l .condition) _ c
-    (append-bytes (digits 4 (l .place)) _ (digits-bytes 4 (l .place))
-    (append-bytes (digits 4 (l .time)) _ (digits-bytes 4 (l .time))
-    (cons-bytes (mark (l .live)) [] (either-way (λ (x : ℕ). x < 256) (l .live) 1 0 (lit< tt) (lit< tt)) none-bytes)))))))
-
-with-line-bytes : (m : List ℕ) (i : ℕ) (l : Line) → Bytes m → Bytes (lineBytes l) → Bytes (withLine m i l)
-unfolding withLine
-with-line-bytes m i l b h = either-way Bytes (ltb i (lineLimit (length m))) _ m (sets-bytes (lineBytes l) m (i * 40) h b) b
-
-with-dead-bytes : (m : List ℕ) (i : ℕ) → Bytes m → Bytes (withDead m i)
-unfolding withDead
-with-dead-bytes m i b = either-way Bytes (ltb i (lineLimit (length m))) _ m (set-bytes m (i * 40 + 39) 0 (lit< tt) b) b
-
 module _ (r : Record) (h : RecordBytes r) where
   made-bytes : (n : ℕ) → Bytes (lineBytes (madeLine n r))
   made-bytes n = line-bytes (madeLine n r) (cons-bytes (r .centre) (r .sale .control) (h .centre) (h .sale .control)) (h .symbol) (h .sale .condition)
 
   corrected-bytes : (l : Line) → Bytes (lineBytes (correctedLine l r))
-  corrected-bytes l =
-      let control : Bytes (newSale r .control) = either-way (λ (s : Sale). Bytes (s .control)) (isCorrection r) (r .new) (r .sale) (h .new .control) (h .sale .control) in
-      line-bytes (correctedLine l r) (cons-bytes (r .centre) (newSale r .control) (h .centre) control) (h .symbol) (h .new .condition)
+  corrected-bytes l = line-bytes (correctedLine l r) (cons-bytes (r .centre) (r .new .control) (h .centre) (h .new .control)) (h .symbol) (h .new .condition)
 
-  lines-bytes : (m : List ℕ) (used n k : ℕ) → Bytes m → Bytes (linesBy m used n r k)
+  lines-bytes : (kind : Kind) (m : List ℕ) (used n k : ℕ) → Bytes m → Bytes (linesBy kind m used n r k)
   unfolding linesBy
-  lines-bytes m used n k b =
-      let made = withLine m used (madeLine n r) in
-      let corrected = withLine (withDead m k) used (correctedLine (lineIn m k) r) in
-      let d = with-dead-bytes m k b in
-      either-way Bytes (isTrade r) made (cond (isCancel r) (withDead m k) (cond (isCorrection r) corrected m)) (with-line-bytes m used (madeLine n r) b (made-bytes n))
-      (either-way Bytes (isCancel r) (withDead m k) (cond (isCorrection r) corrected m) d
-      (either-way Bytes (isCorrection r) corrected m (with-line-bytes (withDead m k) used (correctedLine (lineIn m k) r) d (corrected-bytes (lineIn m k))) b))
+  lines-bytes Event m used n k b = b
+  lines-bytes Trade m used n k b = with-line-bytes m used (madeLine n r) b (made-bytes n)
+  lines-bytes Cancel m used n k b = with-dead-bytes m k b
+  lines-bytes Correction m used n k b =
+      with-line-bytes (withDead m k) used (correctedLine (lineIn m k) r) (with-dead-bytes m k b) (corrected-bytes (lineIn m k))
+  lines-bytes Summary m used n k b = b
+  lines-bytes Other m used n k b = b
 
 -- the lent lines are bytes after a delivery, if they and the message were before
-pub deliver-bytes : (c : Counters) (rows lines : List ℕ) (n : ℕ) (m : List ℕ) → Bytes lines → Bytes m → Bytes (deliverLines c rows lines n m)
-unfolding deliverLines
-deliver-bytes c rows lines n m bl bm =
-    let k = indexOf (lineWith (oldKey (readOf m .found)) (usedLines lines (c .lines))) in
-    either-way Bytes (eqb (deliverAnswer c rows lines n m) 0) (linesBy lines (c .lines) (c .wanted) (readOf m .found) k) lines
-    (lines-bytes (readOf m .found) (read-bytes m bm) lines (c .lines) (c .wanted) k bl)
-    bl
+pub deliver-bytes : (s : State) (a : Arrival) → Bytes (s .lines) → Bytes (a .message) → Bytes (delivered s a .state .lines)
+unfolding delivered
+deliver-bytes s a bl bm =
+    let r = readOf (a .message) .found in
+    let P : State → Type 0 = λ t. Bytes (t .lines) in
+    either-way P (eqb (messageGiven s a .number) 0) (taking s r) (cond (messageGiven s a .uses) (spent s) s)
+    (lines-bytes r (read-bytes (a .message) bm) (kindIn r) (s .lines) (s .counters .lines) (wantedIn s) (lineNamed s r) bl)
+    (either-way P (messageGiven s a .uses) (spent s) s bl bl)

@@ -1,4 +1,4 @@
-pub mod Letters
+pub mod Passing
 pub mod Steps
 pub mod Lent
 pub mod InOrder

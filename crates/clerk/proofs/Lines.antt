@@ -14,9 +14,11 @@ use Rattle.lines.specs.declared.Line.{Line}
 use Rattle.cells.specs.Search.{first}
 use Rattle.lines.specs.Lines.{bears, lineWith, noLine}
 use Rattle.lines.specs.Changed.{dead}
-use Rattle.table.specs.Table.{isFound, borne, deadAt, listed}
-use Rattle.table.proofs.Tables.{neither, found-counted}
+use Rattle.table.specs.Table.{isFound, isListed, deadAt}
+use Rattle.rows.specs.declared.Listing.{Listing}
+use Rattle.table.proofs.Tables.{neither}
 use Rattle.clerk.specs.Steps.{lineFound, killFound}
+use Rattle.clerk.specs.Clerk.{isIn, symbolsIn}
 use Rattle.clerk.specs.Claims.{NoRepeat, keysOf}
 
 -- ---- tests
@@ -52,24 +54,24 @@ same-comm j k = go (same j k) refl (same k j) refl
 
 -- ---- texts in a list
 
-pub listed-append : (x : List ℕ) (xs ys : List (List ℕ)) → listed x (xs ++ ys) ≡ (listed x xs || listed x ys)
+pub listed-append : (x : List ℕ) (xs ys : List (List ℕ)) → isIn x (xs ++ ys) ≡ (isIn x xs || isIn x ys)
 listed-append x [] ys = refl
-listed-append x (a ∷ xs) ys = ap (λ (t : Bool). same a x || t) (listed-append x xs ys) ∙ sym (or-assoc (same a x) (listed x xs) (listed x ys))
+listed-append x (a ∷ xs) ys = ap (λ (t : Bool). same a x || t) (listed-append x xs ys) ∙ sym (or-assoc (same a x) (isIn x xs) (isIn x ys))
 
-pub no-repeat-snoc : (xs : List (List ℕ)) (x : List ℕ) → NoRepeat xs → listed x xs ≡ false → NoRepeat (xs ++ (x ∷ []))
+pub no-repeat-snoc : (xs : List (List ℕ)) (x : List ℕ) → NoRepeat xs → isIn x xs ≡ false → NoRepeat (xs ++ (x ∷ []))
 no-repeat-snoc [] x d h = (refl, tt)
 no-repeat-snoc (y ∷ xs) x d h =
-    let ne : same y x ≡ false = or-false-left (same y x) (listed x xs) h in
-    (listed-append y xs (x ∷ []) ∙ rw (d .0, same-comm x y, ne), no-repeat-snoc xs x (d .1) (or-false-right (same y x) (listed x xs) h))
+    let ne : same y x ≡ false = or-false-left (same y x) (isIn x xs) h in
+    (listed-append y xs (x ∷ []) ∙ rw (d .0, same-comm x y, ne), no-repeat-snoc xs x (d .1) (or-false-right (same y x) (isIn x xs) h))
 
 pub no-repeat-left : (xs ys : List (List ℕ)) → NoRepeat (xs ++ ys) → NoRepeat xs
 no-repeat-left [] ys d = tt
-no-repeat-left (x ∷ xs) ys d = (or-false-left (listed x xs) (listed x ys) (sym (listed-append x xs ys) ∙ d .0), no-repeat-left xs ys (d .1))
+no-repeat-left (x ∷ xs) ys d = (or-false-left (isIn x xs) (isIn x ys) (sym (listed-append x xs ys) ∙ d .0), no-repeat-left xs ys (d .1))
 
-pub no-repeat-last : (xs : List (List ℕ)) (x : List ℕ) → NoRepeat (xs ++ (x ∷ [])) → listed x xs ≡ false
+pub no-repeat-last : (xs : List (List ℕ)) (x : List ℕ) → NoRepeat (xs ++ (x ∷ [])) → isIn x xs ≡ false
 no-repeat-last [] x d = refl
 no-repeat-last (y ∷ xs) x d =
-    let ne : same x y ≡ false = or-false-left (same x y) false (or-false-right (listed y xs) _ (sym (listed-append y xs (x ∷ [])) ∙ d .0)) in
+    let ne : same x y ≡ false = or-false-left (same x y) false (or-false-right (isIn y xs) _ (sym (listed-append y xs (x ∷ [])) ∙ d .0)) in
     rw (same-comm y x, ne) (no-repeat-last xs x (d .1))
 
 -- ---- the search, one step
@@ -95,16 +97,37 @@ pub first-miss : {A : Type 0} (serves : A → Bool) (x : A) (xs : List A) → se
 unfolding first
 first-miss serves x xs e = rw e (first-up serves xs 0)
 
--- ---- keys of lines
-
-pub borne-is : (key : List ℕ) (ls : List Line) → borne key ls ≡ listed key (keysOf ls)
+-- whether anything serves does not go by where the count starts
+found-counted : {A : Type 0} (serves : A → Bool) (xs : List A) (i j : ℕ) → isFound (first serves xs i) ≡ isFound (first serves xs j)
 unfolding first
-borne-is key [] = refl
-borne-is key (l ∷ ls) = go (same (l .key) key) (found-counted (bears key) ls 1 0 ∙ borne-is key ls)
+found-counted serves [] i j = refl
+found-counted serves (x ∷ xs) i j = go (serves x) (found-counted serves xs (suc i) (suc j))
   where
-    go : (t : Bool) → isFound (first (bears key) ls 1) ≡ listed key (keysOf ls) → isFound (cond t (At 0) (first (bears key) ls 1)) ≡ (t || listed key (keysOf ls))
+    go : (t : Bool) → isFound (first serves xs (suc i)) ≡ isFound (first serves xs (suc j))
+        → isFound (cond t (At i) (first serves xs (suc i))) ≡ isFound (cond t (At j) (first serves xs (suc j)))
     go true e = refl
     go false e = e
+
+-- a search for a text finds something exactly where the text is one of those that the elements bear
+pub found-is : {A : Type 0} (text : A → List ℕ) (key : List ℕ) (xs : List A)
+    → isFound (first (λ (x : A). same (text x) key) xs 0) ≡ isIn key (map text xs)
+unfolding first
+found-is text key [] = refl
+found-is text key (x ∷ xs) = go (same (text x) key) (found-counted (λ y. same (text y) key) xs 1 0 ∙ found-is text key xs)
+  where
+    go : (t : Bool) → isFound (first (λ y. same (text y) key) xs 1) ≡ isIn key (map text xs)
+        → isFound (cond t (At 0) (first (λ y. same (text y) key) xs 1)) ≡ (t || isIn key (map text xs))
+    go true e = refl
+    go false e = e
+
+-- ---- keys of lines
+
+pub borne-is : (key : List ℕ) (ls : List Line) → isFound (lineWith key ls) ≡ isIn key (keysOf ls)
+borne-is key ls = found-is (λ (l : Line). l .key) key ls
+
+-- a symbol is listed exactly where it is one of the sheet's
+pub listed-is-in : (symbol : List ℕ) (sheet : List Listing) → isListed symbol sheet ≡ isIn symbol (symbolsIn sheet)
+listed-is-in symbol sheet = found-is (λ (l : Listing). l .symbol) symbol sheet
 
 -- the first line that bears the key
 unfoldable pub named : List ℕ → List Line → Line
@@ -122,25 +145,25 @@ pub named-miss : (key : List ℕ) (l : Line) (ls : List Line) → same (l .key) 
 unfolding named
 named-miss key l ls e = ap (lineFound (l ∷ ls)) (first-miss (bears key) l ls e) ∙ found-up l ls (lineWith key ls)
 
-pub named-none : (key : List ℕ) (ls : List Line) → listed key (keysOf ls) ≡ false → named key ls ≡ noLine
+pub named-none : (key : List ℕ) (ls : List Line) → isIn key (keysOf ls) ≡ false → named key ls ≡ noLine
 unfolding named first
 named-none key [] h = refl
 named-none key (l ∷ ls) h =
-    named-miss key l ls (or-false-left (same (l .key) key) (listed key (keysOf ls)) h)
-    ∙ named-none key ls (or-false-right (same (l .key) key) (listed key (keysOf ls)) h)
+    named-miss key l ls (or-false-left (same (l .key) key) (isIn key (keysOf ls)) h)
+    ∙ named-none key ls (or-false-right (same (l .key) key) (isIn key (keysOf ls)) h)
 
 -- in two lists: in the first, if a line there bears the key
-pub named-append : (key : List ℕ) (xs ys : List Line) → named key (xs ++ ys) ≡ cond (listed key (keysOf xs)) (named key xs) (named key ys)
+pub named-append : (key : List ℕ) (xs ys : List Line) → named key (xs ++ ys) ≡ cond (isIn key (keysOf xs)) (named key xs) (named key ys)
 named-append key [] ys = refl
 named-append key (l ∷ xs) ys = go (same (l .key) key) refl (named-append key xs ys)
   where
-    go : (t : Bool) → same (l .key) key ≡ t → named key (xs ++ ys) ≡ cond (listed key (keysOf xs)) (named key xs) (named key ys)
-        → named key (l ∷ (xs ++ ys)) ≡ cond (t || listed key (keysOf xs)) (named key (l ∷ xs)) (named key ys)
+    go : (t : Bool) → same (l .key) key ≡ t → named key (xs ++ ys) ≡ cond (isIn key (keysOf xs)) (named key xs) (named key ys)
+        → named key (l ∷ (xs ++ ys)) ≡ cond (t || isIn key (keysOf xs)) (named key (l ∷ xs)) (named key ys)
     go true t i = named-hit key l (xs ++ ys) t ∙ sym (named-hit key l xs t)
     go false t i = rw (named-miss key l (xs ++ ys) t, named-miss key l xs t) i
 
 -- a line that is borne and not dead is live
-pub named-live : (key : List ℕ) (ls : List Line) → borne key ls ≡ true → deadAt ls (lineWith key ls) ≡ false → named key ls .live ≡ true
+pub named-live : (key : List ℕ) (ls : List Line) → isFound (lineWith key ls) ≡ true → deadAt ls (lineWith key ls) ≡ false → named key ls .live ≡ true
 unfolding named
 named-live key ls b d = go (lineWith key ls) b d
   where
@@ -161,11 +184,11 @@ kill-key key l = go (same (l .key) key)
     go true = refl
     go false = refl
 
-kill-none : (key : List ℕ) (ls : List Line) → listed key (keysOf ls) ≡ false → map (kill key) ls ≡ ls
+kill-none : (key : List ℕ) (ls : List Line) → isIn key (keysOf ls) ≡ false → map (kill key) ls ≡ ls
 unfolding kill
 kill-none key [] h = refl
 kill-none key (l ∷ ls) h =
-    rw (or-false-left (same (l .key) key) (listed key (keysOf ls)) h, kill-none key ls (or-false-right (same (l .key) key) (listed key (keysOf ls)) h))
+    rw (or-false-left (same (l .key) key) (isIn key (keysOf ls)) h, kill-none key ls (or-false-right (same (l .key) key) (isIn key (keysOf ls)) h))
 
 kill-up : (l : Line) (ls : List Line) (f : Found) → killFound (l ∷ ls) (up f) ≡ l ∷ killFound ls f
 kill-up l ls Nothing = refl

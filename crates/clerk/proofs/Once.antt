@@ -11,16 +11,17 @@ use Rattle.octets.specs.Run.{same}
 use Rattle.octets.proofs.Trips.{same-is}
 use Rattle.records.specs.declared.Record.{Record}
 use Rattle.lines.specs.declared.Line.{Line}
-use Rattle.keys.specs.Messages.{namesOld, makesNew, oldKey, newKey}
-use Rattle.table.specs.Table.{listed}
+use Rattle.rows.specs.declared.Listing.{Listing}
+use Rattle.keys.specs.Keys.{oldKey}
+use Rattle.clerk.specs.Messages.{namesIn, makesIn, keyIn}
 use Rattle.walk.specs.declared.Figures.{Figures}
 use Rattle.walk.specs.Figures.{figuresOf}
 use Rattle.walk.specs.Meaning.{Are}
 use Rattle.walk.proofs.Meaning.{figures-are, figures-one}
 use Rattle.show.specs.Showing.{shownOf}
-use Rattle.clerk.specs.Clerk.{Listing, symbolsIn, Taken, phaseAfter, Origin, originOf, names, trade, made, tradesBut, tradesOf, takenOf, rowOf, shownBy, bookBy, clerkBook}
+use Rattle.clerk.specs.Clerk.{isIn, basisAfter, Taken, Origin, originOf, names, trade, made, tradesBut, tradesOf, takenOf, rowOf, shownBy, bookBy, clerkBook}
 use Rattle.clerk.specs.Claims.{NoRepeat, keysOf, namedIn, MadeLive}
-use Rattle.clerk.proofs.Letters.{Passed}
+use Rattle.clerk.proofs.Passing.{Passed}
 use Rattle.clerk.proofs.Lines.{or-false-left, or-false-right, or-swap, listed-append, borne-is, named, named-hit, named-append, named-live}
 use Rattle.clerk.proofs.Sim.{brings, keys-cut, keys-more, lively, Took, took}
 
@@ -31,59 +32,59 @@ or-true true b h e = absurd (true≢false e)
 or-true false b h e = h
 
 -- a key that is not one of two lists is in neither
-in-neither : (k : List ℕ) (xs ys : List (List ℕ)) → listed k xs ≡ false → listed k ys ≡ false → listed k (xs ++ ys) ≡ false
+in-neither : (k : List ℕ) (xs ys : List (List ℕ)) → isIn k xs ≡ false → isIn k ys ≡ false → isIn k (xs ++ ys) ≡ false
 in-neither k xs ys e f = listed-append k xs ys ∙ rw (e, f)
 
 module _ (sheet : List Listing) (limit : ℕ) where
   -- the key that a taken message names is borne by a line
-  names-borne : (es : List Taken) (r : Record) → Passed (phaseAfter es) (symbolsIn sheet) (tradesOf es) limit r → namesOld r ≡ true → listed (oldKey r) (keysOf (tradesOf es)) ≡ true
+  names-borne : (es : List Taken) (r : Record) → Passed (basisAfter sheet limit es) r → namesIn r ≡ true → isIn (oldKey r) (keysOf (tradesOf es)) ≡ true
   names-borne es r p o = sym (borne-is (oldKey r) (tradesOf es)) ∙ p .isBorne o
 
   -- a key that no line bears is not the one that it names
-  not-named : (k : List ℕ) (es : List Taken) (r : Record) → Passed (phaseAfter es) (symbolsIn sheet) (tradesOf es) limit r → listed k (keysOf (tradesOf es)) ≡ false → listed k (names r) ≡ false
-  not-named k es r p h = go (namesOld r) refl
+  not-named : (k : List ℕ) (es : List Taken) (r : Record) → Passed (basisAfter sheet limit es) r → isIn k (keysOf (tradesOf es)) ≡ false → isIn k (names r) ≡ false
+  not-named k es r p h = go (namesIn r) refl
     where
-      other : namesOld r ≡ true → (t : Bool) → same (oldKey r) k ≡ t → (t || false) ≡ false
+      other : namesIn r ≡ true → (t : Bool) → same (oldKey r) k ≡ t → (t || false) ≡ false
       other o true t =
           let q : oldKey r ≡ k = same-is (oldKey r) k .0 t in
-          absurd (true≢false (sym (names-borne es r p o) ∙ ap (λ (x : List ℕ). listed x (keysOf (tradesOf es))) q ∙ h))
+          absurd (true≢false (sym (names-borne es r p o) ∙ ap (λ (x : List ℕ). isIn x (keysOf (tradesOf es))) q ∙ h))
       other o false t = refl
 
-      go : (t : Bool) → namesOld r ≡ t → listed k (cond t (oldKey r ∷ []) []) ≡ false
+      go : (t : Bool) → namesIn r ≡ t → isIn k (cond t (oldKey r ∷ []) []) ≡ false
       go true t = other t (same (oldKey r) k) refl
       go false t = refl
 
   -- only a key that some line bears was named
-  never-named : (k : List ℕ) (es : List Taken) → Took sheet limit es → listed k (keysOf (tradesOf es)) ≡ false → listed k (namedIn es) ≡ false
+  never-named : (k : List ℕ) (es : List Taken) → Took sheet limit es → isIn k (keysOf (tradesOf es)) ≡ false → isIn k (namedIn es) ≡ false
   unfolding namedIn
   never-named k [] w h = refl
   never-named k (e ∷ es) w h =
-      let f : listed k (keysOf (tradesOf es)) ≡ false = or-false-left _ (listed k (brings (e .message))) (sym (listed-append k (keysOf (tradesOf es)) (brings (e .message))) ∙ ap (listed k) (sym (keys-more [] e es)) ∙ h) in
+      let f : isIn k (keysOf (tradesOf es)) ≡ false = or-false-left _ (isIn k (brings (e .message))) (sym (listed-append k (keysOf (tradesOf es)) (brings (e .message))) ∙ ap (isIn k) (sym (keys-more [] e es)) ∙ h) in
       in-neither k (names (e .message)) (namedIn es) (not-named k es (e .message) (w .0) f) (never-named k es (w .1) f)
 
   -- the line that one message made, if it bears the key and is live, was not named later
-  made-live : (k : List ℕ) (e : Taken) (es : List Taken) (later : List (List ℕ)) → listed k (keysOf (made e es later)) ≡ true → named k (made e es later) .live ≡ true → listed k later ≡ false
-  made-live k e es later h v = go (makesNew (e .message)) h v
+  made-live : (k : List ℕ) (e : Taken) (es : List Taken) (later : List (List ℕ)) → isIn k (keysOf (made e es later)) ≡ true → named k (made e es later) .live ≡ true → isIn k later ≡ false
+  made-live k e es later h v = go (makesIn (e .message)) h v
     where
       l : Line
-      l = trade e (originOf (e ∷ es) (newKey (e .message))) later
+      l = trade e (originOf (e ∷ es) (keyIn (e .message))) later
 
-      hit : (t : Bool) → same (l .key) k ≡ t → (t || false) ≡ true → named k (l ∷ []) .live ≡ true → listed k later ≡ false
+      hit : (t : Bool) → same (l .key) k ≡ t → (t || false) ≡ true → named k (l ∷ []) .live ≡ true → isIn k later ≡ false
       hit true t h v =
           let q : l .key ≡ k = same-is (l .key) k .0 t in
-          ap (λ (x : List ℕ). listed x later) (sym q) ∙ not-true (listed (l .key) later) (ap (λ (x : Line). x .live) (sym (named-hit k l [] t)) ∙ v)
+          ap (λ (x : List ℕ). isIn x later) (sym q) ∙ not-true (isIn (l .key) later) (ap (λ (x : Line). x .live) (sym (named-hit k l [] t)) ∙ v)
       hit false t h v = absurd (true≢false (sym h))
 
-      go : (t : Bool) → listed k (keysOf (cond t (l ∷ []) [])) ≡ true → named k (cond t (l ∷ []) []) .live ≡ true → listed k later ≡ false
+      go : (t : Bool) → isIn k (keysOf (cond t (l ∷ []) [])) ≡ true → named k (cond t (l ∷ []) []) .live ≡ true → isIn k later ≡ false
       go true h v = hit (same (l .key) k) refl h v
       go false h v = absurd (true≢false (sym h))
 
   -- a trade that is live was not named
-  live-unnamed : (k : List ℕ) (later : List (List ℕ)) (es : List Taken) → Took sheet limit es → listed k (keysOf (tradesBut later es)) ≡ true → named k (tradesBut later es) .live ≡ true
-      → (listed k (namedIn es) ≡ false) × (listed k later ≡ false)
+  live-unnamed : (k : List ℕ) (later : List (List ℕ)) (es : List Taken) → Took sheet limit es → isIn k (keysOf (tradesBut later es)) ≡ true → named k (tradesBut later es) .live ≡ true
+      → (isIn k (namedIn es) ≡ false) × (isIn k later ≡ false)
   unfolding tradesBut namedIn
   live-unnamed k later [] w h v = absurd (true≢false (sym h))
-  live-unnamed k later (e ∷ es) w h v = go (listed k (keysOf A)) refl (rw (named-append k A M) at v) (λ q u. live-unnamed k (ns ++ later) es (w .1) q u)
+  live-unnamed k later (e ∷ es) w h v = go (isIn k (keysOf A)) refl (rw (named-append k A M) at v) (λ q u. live-unnamed k (ns ++ later) es (w .1) q u)
     where
       ns : List (List ℕ)
       ns = names (e .message)
@@ -94,27 +95,27 @@ module _ (sheet : List Listing) (limit : ℕ) where
       M : List Line
       M = made e es later
 
-      go : (t : Bool) → listed k (keysOf A) ≡ t → cond t (named k A) (named k M) .live ≡ true
-          → (listed k (keysOf A) ≡ true → named k A .live ≡ true → (listed k (namedIn es) ≡ false) × (listed k (ns ++ later) ≡ false))
-          → (listed k (ns ++ namedIn es) ≡ false) × (listed k later ≡ false)
+      go : (t : Bool) → isIn k (keysOf A) ≡ t → cond t (named k A) (named k M) .live ≡ true
+          → (isIn k (keysOf A) ≡ true → named k A .live ≡ true → (isIn k (namedIn es) ≡ false) × (isIn k (ns ++ later) ≡ false))
+          → (isIn k (ns ++ namedIn es) ≡ false) × (isIn k later ≡ false)
       go true t v i =
           let q = i t v in
-          let f : (listed k ns || listed k later) ≡ false = sym (listed-append k ns later) ∙ q .1 in
-          (in-neither k ns (namedIn es) (or-false-left (listed k ns) (listed k later) f) (q .0), or-false-right (listed k ns) (listed k later) f)
+          let f : (isIn k ns || isIn k later) ≡ false = sym (listed-append k ns later) ∙ q .1 in
+          (in-neither k ns (namedIn es) (or-false-left (isIn k ns) (isIn k later) f) (q .0), or-false-right (isIn k ns) (isIn k later) f)
       go false t v i =
-          let f : listed k (keysOf (tradesOf es)) ≡ false = ap (listed k) (keys-cut [] (ns ++ later) es) ∙ t in
-          let g : listed k (keysOf M) ≡ true = or-true (listed k (keysOf A)) (listed k (keysOf M)) (sym (listed-append k (keysOf A) (keysOf M)) ∙ ap (listed k) (sym (map-append (λ (l : Line). l .key) A M)) ∙ h) t in
+          let f : isIn k (keysOf (tradesOf es)) ≡ false = ap (isIn k) (keys-cut [] (ns ++ later) es) ∙ t in
+          let g : isIn k (keysOf M) ≡ true = or-true (isIn k (keysOf A)) (isIn k (keysOf M)) (sym (listed-append k (keysOf A) (keysOf M)) ∙ ap (isIn k) (sym (map-append (λ (l : Line). l .key) A M)) ∙ h) t in
           (in-neither k ns (namedIn es) (not-named k es (e .message) (w .0) f) (never-named k es (w .1) f), made-live k e es later g v)
 
   once : (es : List Taken) → Took sheet limit es → NoRepeat (namedIn es)
   unfolding namedIn
   once [] w = tt
-  once (e ∷ es) w = go (namesOld (e .message)) refl (once es (w .1))
+  once (e ∷ es) w = go (namesIn (e .message)) refl (once es (w .1))
     where
       k : List ℕ
       k = oldKey (e .message)
 
-      go : (t : Bool) → namesOld (e .message) ≡ t → NoRepeat (namedIn es) → NoRepeat (cond t (k ∷ []) [] ++ namedIn es)
+      go : (t : Bool) → namesIn (e .message) ≡ t → NoRepeat (namedIn es) → NoRepeat (cond t (k ∷ []) [] ++ namedIn es)
       go true t i =
           let live = named-live k (tradesOf es) (w .0 .isBorne t) (w .0 .isLive t) in
           (live-unnamed k [] es (w .1) (names-borne es (e .message) (w .0) t) live .0, i)
@@ -132,30 +133,30 @@ record Made (cut : List (List ℕ)) (es : List Taken) (l : Line) : Type 0 where
   pub maker : Taken
   pub earlier : List Taken
   pub whole : es ≡ later ++ (maker ∷ earlier)
-  pub makes : makesNew (maker .message) ≡ true
-  pub line : l ≡ trade maker (originOf (maker ∷ earlier) (newKey (maker .message))) (namedIn later ++ cut)
+  pub makes : makesIn (maker .message) ≡ true
+  pub line : l ≡ trade maker (originOf (maker ∷ earlier) (keyIn (maker .message))) (namedIn later ++ cut)
 
 -- only whether its key was named counts
-trade-by : (e : Taken) (o : Origin) (c d : List (List ℕ)) → listed (newKey (e .message)) c ≡ listed (newKey (e .message)) d → trade e o c ≡ trade e o d
+trade-by : (e : Taken) (o : Origin) (c d : List (List ℕ)) → isIn (keyIn (e .message)) c ≡ isIn (keyIn (e .message)) d → trade e o c ≡ trade e o d
 trade-by e o c d h = ap (lively e o) h
 
 -- what one message named, before or after what others did
-named-turn : (k : List ℕ) (xs ns cut : List (List ℕ)) → listed k (xs ++ (ns ++ cut)) ≡ listed k ((ns ++ xs) ++ cut)
+named-turn : (k : List ℕ) (xs ns cut : List (List ℕ)) → isIn k (xs ++ (ns ++ cut)) ≡ isIn k ((ns ++ xs) ++ cut)
 named-turn k xs ns cut =
     listed-append k xs (ns ++ cut)
-    ∙ ap (λ (t : Bool). listed k xs || t) (listed-append k ns cut)
-    ∙ or-swap (listed k xs) (listed k ns) (listed k cut)
-    ∙ ap (λ (t : Bool). listed k ns || t) (sym (listed-append k xs cut))
+    ∙ ap (λ (t : Bool). isIn k xs || t) (listed-append k ns cut)
+    ∙ or-swap (isIn k xs) (isIn k ns) (isIn k cut)
+    ∙ ap (λ (t : Bool). isIn k ns || t) (sym (listed-append k xs cut))
     ∙ sym (listed-append k ns (xs ++ cut))
-    ∙ ap (listed k) (sym (append-assoc ns xs cut))
+    ∙ ap (isIn k) (sym (append-assoc ns xs cut))
 
 trade-turn : (e : Taken) (o : Origin) (xs ns cut : List (List ℕ)) → trade e o (xs ++ (ns ++ cut)) ≡ trade e o ((ns ++ xs) ++ cut)
-trade-turn e o xs ns cut = trade-by e o (xs ++ (ns ++ cut)) ((ns ++ xs) ++ cut) (named-turn (newKey (e .message)) xs ns cut)
+trade-turn e o xs ns cut = trade-by e o (xs ++ (ns ++ cut)) ((ns ++ xs) ++ cut) (named-turn (keyIn (e .message)) xs ns cut)
 
 made-of : (cut : List (List ℕ)) (es : List Taken) (l : Line) → List·Memᴰ l (tradesBut cut es) → Made cut es l
 unfolding tradesBut namedIn
 made-of cut [] l m = absurd (List·Memᴰ·not-nil m)
-made-of cut (e ∷ es) l m = ⊎-elim (λ i. before (made-of (names (e .message) ++ cut) es l i)) (λ i. here (makesNew (e .message)) refl i) (List·Memᴰ·append-cases (tradesBut (names (e .message) ++ cut) es) m)
+made-of cut (e ∷ es) l m = ⊎-elim (λ i. before (made-of (names (e .message) ++ cut) es l i)) (λ i. here (makesIn (e .message)) refl i) (List·Memᴰ·append-cases (tradesBut (names (e .message) ++ cut) es) m)
   where
     before : Made (names (e .message) ++ cut) es l → Made cut (e ∷ es) l
     before h =
@@ -165,20 +166,20 @@ made-of cut (e ∷ es) l m = ⊎-elim (λ i. before (made-of (names (e .message)
           earlier = h .earlier;
           whole = ap {B = List Taken} (λ x. e ∷ x) (h .whole);
           makes = h .makes;
-          line = h .line ∙ trade-turn (h .maker) (originOf (h .maker ∷ h .earlier) (newKey (h .maker .message))) (namedIn (h .later)) (names (e .message)) cut;
+          line = h .line ∙ trade-turn (h .maker) (originOf (h .maker ∷ h .earlier) (keyIn (h .maker .message))) (namedIn (h .later)) (names (e .message)) cut;
         }
 
-    here : (t : Bool) → makesNew (e .message) ≡ t → List·Memᴰ l (cond t (trade e (originOf (e ∷ es) (newKey (e .message))) cut ∷ []) []) → Made cut (e ∷ es) l
+    here : (t : Bool) → makesIn (e .message) ≡ t → List·Memᴰ l (cond t (trade e (originOf (e ∷ es) (keyIn (e .message))) cut ∷ []) []) → Made cut (e ∷ es) l
     here true t i = record { later = []; maker = e; earlier = es; whole = refl; makes = t; line = List·Memᴰ·eq-of-singleton i }
     here false t i = absurd (List·Memᴰ·not-nil i)
 
-made-in : (cut : List (List ℕ)) (later : List Taken) (e : Taken) (es : List Taken) → makesNew (e .message) ≡ true
-    → List·Memᴰ (trade e (originOf (e ∷ es) (newKey (e .message))) (namedIn later ++ cut)) (tradesBut cut (later ++ (e ∷ es)))
+made-in : (cut : List (List ℕ)) (later : List Taken) (e : Taken) (es : List Taken) → makesIn (e .message) ≡ true
+    → List·Memᴰ (trade e (originOf (e ∷ es) (keyIn (e .message))) (namedIn later ++ cut)) (tradesBut cut (later ++ (e ∷ es)))
 unfolding tradesBut namedIn
 made-in cut [] e es h = Memᴰ·append-right (tradesBut (names (e .message) ++ cut) es) (rw h (List·Memᴰ·head refl))
 made-in cut (d ∷ later) e es h =
     let i = made-in (names (d .message) ++ cut) later e es h in
-    let q = trade-turn e (originOf (e ∷ es) (newKey (e .message))) (namedIn later) (names (d .message)) cut in
+    let q = trade-turn e (originOf (e ∷ es) (keyIn (e .message))) (namedIn later) (names (d .message)) cut in
     Memᴰ·append-left _ (subst (λ (l : Line). List·Memᴰ l (tradesBut (names (d .message) ++ cut) (later ++ (e ∷ es)))) q i)
 
 -- of any list of taken messages
@@ -188,8 +189,8 @@ live-of es l = (λ h. there h, λ h. back h)
     there : List·Memᴰ l (tradesOf es) × (l .live ≡ true) → MadeLive es l
     there h =
         let g = made-of [] es l (h .0) in
-        let k = newKey (g .maker .message) in
-        let u : listed k (namedIn (g .later) ++ []) ≡ false = not-true (listed k (namedIn (g .later) ++ [])) (ap (λ (x : Line). x .live) (sym (g .line)) ∙ h .1) in
+        let k = keyIn (g .maker .message) in
+        let u : isIn k (namedIn (g .later) ++ []) ≡ false = not-true (isIn k (namedIn (g .later) ++ [])) (ap (λ (x : Line). x .live) (sym (g .line)) ∙ h .1) in
         record {
           later = g .later;
           maker = g .maker;
@@ -197,14 +198,14 @@ live-of es l = (λ h. there h, λ h. back h)
           whole = g .whole;
           makes = g .makes;
           line = g .line ∙ trade-by (g .maker) (originOf (g .maker ∷ g .earlier) k) (namedIn (g .later) ++ []) [] u;
-          unnamed = ap (listed k) (sym (append-nil (namedIn (g .later)))) ∙ u;
+          unnamed = ap (isIn k) (sym (append-nil (namedIn (g .later)))) ∙ u;
         }
 
     back : MadeLive es l → List·Memᴰ l (tradesOf es) × (l .live ≡ true)
     back h =
         let i = made-in [] (h .later) (h .maker) (h .earlier) (h .makes) in
-        let u : listed (newKey (h .maker .message)) (namedIn (h .later) ++ []) ≡ false = ap (listed (newKey (h .maker .message))) (append-nil (namedIn (h .later))) ∙ h .unnamed in
-        let q = trade-by (h .maker) (originOf (h .maker ∷ h .earlier) (newKey (h .maker .message))) (namedIn (h .later) ++ []) [] u ∙ sym (h .line) in (
+        let u : isIn (keyIn (h .maker .message)) (namedIn (h .later) ++ []) ≡ false = ap (isIn (keyIn (h .maker .message))) (append-nil (namedIn (h .later))) ∙ h .unnamed in
+        let q = trade-by (h .maker) (originOf (h .maker ∷ h .earlier) (keyIn (h .maker .message))) (namedIn (h .later) ++ []) [] u ∙ sym (h .line) in (
           subst (λ (x : List Taken). List·Memᴰ l (tradesOf x)) (sym (h .whole)) (subst (λ (x : Line). List·Memᴰ x (tradesOf (h .later ++ (h .maker ∷ h .earlier)))) q i),
           ap (λ (x : Line). x .live) (h .line),
         )

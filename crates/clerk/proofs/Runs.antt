@@ -2,58 +2,81 @@
 -- symbol can be read then.
 -- Assumes nothing.
 use Prim.Native.Nat.{ℕ}
-use mathlib.Core.Path.{_≡_, refl}
+use mathlib.Core.Path.{_≡_, refl, sym, subst}
 use mathlib.Core.List.{List, [], _∷_}
-use lib.ListN.{length}
 use denote.Ref.{RefT}
 use Rattle.octets.specs.Run.{Bytes}
-use Rattle.book.specs.declared.counters.Counters.{Counters}
-use Rattle.book.specs.Counting.{freshCounters}
-use Rattle.book.specs.Calls.{listSaid, listRows, deliverSaid, deliverRows, deliverLines, rowShown}
-use Rattle.clerk.specs.Clerk.{Listing}
-use Rattle.clerk.specs.Arrivals.{Arrival}
+use Rattle.answers.specs.Answers.{numberOf, answerOf}
+use Rattle.rows.specs.declared.Listing.{Listing}
+use Rattle.rows.specs.Changed.{ListingFits}
+use Rattle.counters.specs.Counting.{freshCounters}
+use Rattle.book.specs.declared.Said.{Said}
+use Rattle.book.specs.State.{State, lent, Outcome, leaving, Arrival}
+use Rattle.book.specs.Calls.{listed, delivered, shown}
+use Rattle.book.proofs.Demand1.{list-told, message-told}
+use Rattle.book.proofs.Touches.{touches-only}
 use Rattle.clerk.proofs.Lent.{deliver-bytes}
 use Rattle.clerk.proofs.Demand3.{Lists, no-listing, a-listing, Delivers, no-message, a-message, Day, Reads, a-reading}
 
--- each symbol is eight bytes, each message is bytes
-abbrev pub Eights : List Listing → Type 0
-Eights [] = Unit {0}
-Eights (x ∷ ls) = (length (x .symbol) ≡ 8) × Eights ls
+-- each listing is what its type says, each message is bytes
+abbrev pub AllFit : List Listing → Type 0
+AllFit [] = Unit {0}
+AllFit (x ∷ ls) = ListingFits x × AllFit ls
 
 abbrev pub AllBytes : List Arrival → Type 0
 AllBytes [] = Unit {0}
 AllBytes (a ∷ l) = Bytes (a .message) × AllBytes l
 
 -- a slice that holds these elements, wherever it lies
-abbrev lent : List ℕ → RefT (List ℕ)
-lent xs = record { ptr = (0, 0); name = 0; now = xs }
+abbrev slice : List ℕ → RefT (List ℕ)
+slice xs = record { ptr = (0, 0); name = 0; now = xs }
 
-lists-there : (c : Counters) (rows lines : List ℕ) (ls : List Listing) → Eights ls → (d : Counters) × (end : List ℕ) × Lists c rows lines ls d end
-lists-there c rows lines [] h = (c, rows, no-listing)
-lists-there c rows lines (x ∷ ls) h =
-    let said = listSaid c rows lines (x .symbol) (x .close) in
-    let after = listRows c rows lines (x .symbol) (x .close) in
-    let t = lists-there (said .counters) after lines ls (h .1) in
-    (t .0, t .1, a-listing ([], ([], tt)) (c, (lent rows, (lent lines, (x .symbol, (x .close, tt))))) said (c, (lent after, (lent lines, (x .symbol, (x .close, tt))))) (h .0) (refl, refl) (t .2))
+-- what a call with this outcome tells
+abbrev telling : Outcome → Said
+telling o = record { answer = answerOf (o .answer); counters = o .state .counters }
 
-delivers-there : (c : Counters) (rows lines : List ℕ) (l : List Arrival) → Bytes lines → AllBytes l → (d : Counters) × (endRows endLines : List ℕ) × Delivers c rows lines l d endRows endLines
-delivers-there c rows lines [] bl h = (c, rows, lines, no-message)
-delivers-there c rows lines (a ∷ l) bl h =
+-- such a call leaves the outcome, if its number is one of the table's
+told : (o : Outcome) (lines : List ℕ) → numberOf (answerOf (o .answer)) ≡ o .answer → lines ≡ o .state .lines
+    → leaving (telling o) (o .state .rows) lines ≡ o
+told o lines e f = rw (e, f)
+
+list-bears : (s : State) (l : Listing) → numberOf (answerOf (listed s l .answer)) ≡ listed s l .answer
+unfolding listed
+list-bears s l = list-told s l
+
+message-bears : (s : State) (a : Arrival) → numberOf (answerOf (delivered s a .answer)) ≡ delivered s a .answer
+unfolding delivered
+message-bears s a = message-told s a
+
+lists-there : (s : State) (ls : List Listing) → AllFit ls → (end : State) × (end .lines ≡ s .lines) × Lists s ls end
+lists-there s [] h = (s, refl, no-listing)
+lists-there s (x ∷ ls) h =
+    let c = s .counters in
+    let o = listed s x in
+    let k = touches-only s .listedLines x in
+    let after = lent (o .state .counters) (o .state .rows) (s .lines) in
+    let t = lists-there after ls (h .1) in
+    (t .0, t .1, a-listing ([], ([], tt)) (c, (slice (s .rows), (slice (s .lines), (x, tt)))) (telling o) (c, (slice (o .state .rows), (slice (s .lines), (x, tt)))) (h .0) (told o (s .lines) (list-bears s x) (sym k)) (t .2))
+
+delivers-there : (s : State) (l : List Arrival) → Bytes (s .lines) → AllBytes l → (end : State) × Delivers s l end
+delivers-there s [] bl h = (s, no-message)
+delivers-there s (a ∷ l) bl h =
+    let c = s .counters in
     let m = a .message in
-    let said = deliverSaid c rows lines (a .number) m in
-    let r = deliverRows c rows lines (a .number) m in
-    let k = deliverLines c rows lines (a .number) m in
-    let t = delivers-there (said .counters) r k l (deliver-bytes c rows lines (a .number) m bl (h .0)) (h .1) in
-    (t .0, t .1, t .2, a-message ([], ([], ([], tt))) (c, (lent rows, (lent lines, (a .number, (lent m, tt))))) said (c, (lent r, (lent k, (a .number, (lent m, tt))))) bl (h .0) (refl, (refl, refl)) (t .3))
+    let o = delivered s a in
+    let t = delivers-there (o .state) l (deliver-bytes s a bl (h .0)) (h .1) in
+    (t .0, a-message ([], ([], ([], tt))) (c, (slice (s .rows), (slice (s .lines), (a .number, (slice m, tt))))) (telling o) (c, (slice (o .state .rows), (slice (o .state .lines), (a .number, (slice m, tt))))) bl (h .0) (told o (o .state .lines) (message-bears s a) refl) (t .1))
 
-pub day-there : (rows lines : List ℕ) (ls : List Listing) (l : List Arrival) → Bytes lines → Eights ls → AllBytes l
-    → (d : Counters) × (endRows endLines : List ℕ) × Day rows lines ls l d endRows endLines
+pub day-there : (rows lines : List ℕ) (ls : List Listing) (l : List Arrival) → Bytes lines → AllFit ls → AllBytes l
+    → (end : State) × Day rows lines ls l end
 day-there rows lines ls l bl e b =
-    let p = lists-there freshCounters rows lines ls e in
-    let q = delivers-there (p .0) (p .1) lines l bl b in
-    (q .0, q .1, q .2, record { start = freshCounters; started = refl; ready = p .0; readyRows = p .1; lists = p .2; delivers = q .3 })
+    let p = lists-there (lent freshCounters rows lines) ls e in
+    let q = delivers-there (p .0) l (subst Bytes (sym (p .1)) bl) b in
+    (q .0, record { start = freshCounters; started = refl; ready = p .0; lists = p .2; delivers = q .1 })
 
 -- what a reading tells is told by some reading
-pub reading-there : (c : Counters) (rows lines symbol : List ℕ) → Reads c rows lines symbol (rowShown c rows lines symbol)
-reading-there c rows lines symbol =
-    a-reading ([], ([], tt)) (c, (lent rows, (lent lines, (symbol, tt)))) (rowShown c rows lines symbol) (c, (lent rows, (lent lines, (symbol, tt)))) refl
+pub reading-there : (s : State) (symbol : List ℕ) → Reads s symbol (shown s symbol)
+reading-there s symbol =
+    let rows = slice (s .rows) in
+    let lines = slice (s .lines) in
+    a-reading ([], ([], tt)) (s .counters, (rows, (lines, (symbol, tt)))) (shown s symbol) (s .counters, (rows, (lines, (symbol, tt)))) refl

@@ -6,7 +6,7 @@ use mathlib.Core.Bool.{Bool, true, false, cond, not, _&&_, _||_}
 use mathlib.Core.List.{List, [], _∷_, _++_, map, map-append, append-nil}
 use native.Mathlib.Numerals.{add-one}
 use native.Mathlib.Omega.{arith}
-use borrow.Author.Tests.{eqb-true, ne-eqb}
+use borrow.Author.Tests.{eqb-true}
 use lib.Dec.{eqb}
 use lib.ListN.{length, length-map, length-append}
 use Rattle.octets.specs.Run.{same}
@@ -19,29 +19,37 @@ use Rattle.lines.specs.declared.Line.{Line}
 use Rattle.rows.specs.declared.Row.{Row}
 use Rattle.cells.specs.Search.{first}
 use Rattle.lines.specs.Lines.{lineWith}
-use Rattle.rows.specs.Rows.{isOf, rowWith}
+use Rattle.rows.specs.Rows.{isOf, sheetIn, listingOf}
 use Rattle.lines.specs.Changed.{dead}
 use Rattle.rows.specs.Changed.{listedRow}
-use Rattle.keys.specs.Messages.{isEvent, isSummary, namesOld, makesNew, phaseOf, oldKey, newKey, newSale}
-use Rattle.table.specs.Table.{lowest, listed, symbolsOf, listTable}
+use Rattle.rows.specs.declared.Listing.{Listing}
+use Rattle.kinds.specs.declared.Kind.{Kind}
+use Rattle.kinds.specs.declared.Kind.the-variants.{Event, Trade, Cancel, Correction, Summary, Other}
+use Rattle.kinds.specs.Kinds.{isSummary, setsVolume, namesOld, makesNew}
+use Rattle.counters.specs.Phases.{phaseOf}
+use Rattle.keys.specs.Keys.{kindIn, oldKey}
+use Rattle.clerk.specs.Messages.{eventIn, summaryIn, setsIn, namesIn, makesIn, keyIn, saleIn}
+use Rattle.answers.specs.Cases.{given}
+use Rattle.table.specs.Table.{searched, contentTable}
+use Rattle.book.specs.Calls.{listTable}
 use Rattle.take.specs.Taking.{madeLine, correctedLine}
-use Rattle.clerk.specs.Steps.{Book, lineFound, killFound, linesAfter, kept, keepFound, rowsAfter, taking, usingUp, content, after}
-use Rattle.clerk.specs.Clerk.{Listing, symbolsIn, sheetFrom, Taken, phaseAfter, Origin, originOf, names, trade, made, tradesBut, tradesOf, answerTo, takenOf, summaryOf, reportedOf, rowOf, bookBy, clerkBook}
+use Rattle.clerk.specs.Steps.{Book, lineFound, killFound, linesFor, keeping, summing, rowFound, rowsFor, taking, usingUp, content, after}
+use Rattle.clerk.specs.Clerk.{isIn, symbolsIn, sheetFrom, Taken, phaseAfter, Origin, originOf, names, trade, made, tradesBut, tradesOf, basisAfter, answerTo, takenOf, summaryOf, reportedOf, rowOf, bookBy, clerkBook}
 use Rattle.clerk.specs.Arrivals.{play}
 use Rattle.clerk.specs.Claims.{NoRepeat, keysOf}
-use Rattle.clerk.proofs.Letters.{Tests, Letter, S, T, X, C, J, none, letter-of, Passed, passed, listable}
-use Rattle.clerk.proofs.Lines.{or-false-left, or-false-right, or-swap, same-refl, same-comm, listed-append, no-repeat-snoc, no-repeat-left, no-repeat-last, up, first-hit, first-miss, borne-is, named, named-hit, named-miss, named-none, named-append, kill, kill-found}
+use Rattle.clerk.proofs.Passing.{Passed, passed, listable}
+use Rattle.clerk.proofs.Lines.{or-false-left, or-false-right, or-swap, same-refl, same-comm, listed-append, no-repeat-snoc, no-repeat-left, no-repeat-last, up, first-hit, first-miss, borne-is, listed-is-in, named, named-hit, named-miss, named-none, named-append, kill, kill-found}
 
 -- ---- the keys of the trades
 
 -- the key that a T or a C brings
 abbrev pub brings : Record → List (List ℕ)
-brings r = cond (makesNew r) (newKey r ∷ []) []
+brings r = cond (makesIn r) (keyIn r ∷ []) []
 
 made-keys : (e : Taken) (es : List Taken) (later : List (List ℕ)) → keysOf (made e es later) ≡ brings (e .message)
-made-keys e es later = go (makesNew (e .message))
+made-keys e es later = go (makesIn (e .message))
   where
-    go : (t : Bool) → keysOf (cond t (trade e (originOf (e ∷ es) (newKey (e .message))) later ∷ []) []) ≡ cond t (newKey (e .message) ∷ []) []
+    go : (t : Bool) → keysOf (cond t (trade e (originOf (e ∷ es) (keyIn (e .message))) later ∷ []) []) ≡ cond t (keyIn (e .message) ∷ []) []
     go true = refl
     go false = refl
 
@@ -66,51 +74,51 @@ keys-more later e es =
 abbrev pub lively : Taken → Origin → Bool → Line
 lively e o b =
     record {
-      key = newKey (e .message);
+      key = keyIn (e .message);
       symbol = e .message .symbol;
-      price = newSale (e .message) .price;
-      size = newSale (e .message) .size;
-      condition = newSale (e .message) .condition;
+      price = saleIn (e .message) .price;
+      size = saleIn (e .message) .size;
+      condition = saleIn (e .message) .condition;
       place = o .place;
       time = o .time;
       live = not b;
     }
 
-trade-kill : (key : List ℕ) (e : Taken) (o : Origin) (c d : List (List ℕ)) → listed (newKey (e .message)) d ≡ (same key (newKey (e .message)) || listed (newKey (e .message)) c)
+trade-kill : (key : List ℕ) (e : Taken) (o : Origin) (c d : List (List ℕ)) → isIn (keyIn (e .message)) d ≡ (same key (keyIn (e .message)) || isIn (keyIn (e .message)) c)
     → trade e o d ≡ kill key (trade e o c)
 unfolding kill
-trade-kill key e o c d h = ap (lively e o) (h ∙ ap (λ (t : Bool). t || there) (same-comm key (newKey (e .message)))) ∙ go (same (newKey (e .message)) key)
+trade-kill key e o c d h = ap (lively e o) (h ∙ ap (λ (t : Bool). t || there) (same-comm key (keyIn (e .message)))) ∙ go (same (keyIn (e .message)) key)
   where
     there : Bool
-    there = listed (newKey (e .message)) c
+    there = isIn (keyIn (e .message)) c
 
     go : (t : Bool) → lively e o (t || there) ≡ cond t (dead (lively e o there)) (lively e o there)
     go true = refl
     go false = refl
 
-made-kill : (key : List ℕ) (e : Taken) (es : List Taken) (c d : List (List ℕ)) → ((x : List ℕ) → listed x d ≡ (same key x || listed x c)) → made e es d ≡ map (kill key) (made e es c)
-made-kill key e es c d h = go (makesNew (e .message))
+made-kill : (key : List ℕ) (e : Taken) (es : List Taken) (c d : List (List ℕ)) → ((x : List ℕ) → isIn x d ≡ (same key x || isIn x c)) → made e es d ≡ map (kill key) (made e es c)
+made-kill key e es c d h = go (makesIn (e .message))
   where
     o : Origin
-    o = originOf (e ∷ es) (newKey (e .message))
+    o = originOf (e ∷ es) (keyIn (e .message))
 
     go : (t : Bool) → cond t (trade e o d ∷ []) [] ≡ map (kill key) (cond t (trade e o c ∷ []) [])
-    go true = ap {B = List Line} (λ l. l ∷ []) (trade-kill key e o c d (h (newKey (e .message))))
+    go true = ap {B = List Line} (λ l. l ∷ []) (trade-kill key e o c d (h (keyIn (e .message))))
     go false = refl
 
-cut-more : (key : List ℕ) (c d : List (List ℕ)) (es : List Taken) → ((x : List ℕ) → listed x d ≡ (same key x || listed x c)) → tradesBut d es ≡ map (kill key) (tradesBut c es)
+cut-more : (key : List ℕ) (c d : List (List ℕ)) (es : List Taken) → ((x : List ℕ) → isIn x d ≡ (same key x || isIn x c)) → tradesBut d es ≡ map (kill key) (tradesBut c es)
 unfolding tradesBut
 cut-more key c d [] h = refl
 cut-more key c d (e ∷ es) h =
     ap₂ {C = List Line} (λ a b. a ++ b) (cut-more key (names (e .message) ++ c) (names (e .message) ++ d) es more) (made-kill key e es c d h)
     ∙ sym (map-append (kill key) (tradesBut (names (e .message) ++ c) es) (made e es c))
   where
-    more : (x : List ℕ) → listed x (names (e .message) ++ d) ≡ (same key x || listed x (names (e .message) ++ c))
+    more : (x : List ℕ) → isIn x (names (e .message) ++ d) ≡ (same key x || isIn x (names (e .message) ++ c))
     more x =
         let ns = names (e .message) in
         listed-append x ns d
-        ∙ ap (λ (t : Bool). listed x ns || t) (h x)
-        ∙ or-swap (listed x ns) (same key x) (listed x c)
+        ∙ ap (λ (t : Bool). isIn x ns || t) (h x)
+        ∙ or-swap (isIn x ns) (same key x) (isIn x c)
         ∙ ap (λ (t : Bool). same key x || t) (sym (listed-append x ns c))
 
 -- an X or a C of a key: what the clerk works out anew is what the book does to its lines
@@ -122,36 +130,36 @@ cut-first key es u = cut-more key [] (key ∷ []) es (λ x. refl) ∙ sym (kill-
 abbrev originIn : Line → Origin
 originIn l = record { place = l .place; time = l .time }
 
-origin-none : (e : Taken) (es : List Taken) (key : List ℕ) → (makesNew (e .message) && same (newKey (e .message)) key) ≡ false → originOf (e ∷ es) key ≡ originOf es key
+origin-none : (e : Taken) (es : List Taken) (key : List ℕ) → (makesIn (e .message) && same (keyIn (e .message)) key) ≡ false → originOf (e ∷ es) key ≡ originOf es key
 unfolding originOf
 origin-none e es key h = rw h
 
 -- the same line, found among one more line
 origin-step : (key : List ℕ) (e : Taken) (es : List Taken) (later : List (List ℕ)) (A : List Line) → NoRepeat (keysOf (A ++ made e es later))
     → originIn (named key A) ≡ originOf es key → originIn (named key (A ++ made e es later)) ≡ originOf (e ∷ es) key
-origin-step key e es later A u i = go (makesNew (e .message)) refl (same (newKey (e .message)) key) refl
+origin-step key e es later A u i = go (makesIn (e .message)) refl (same (keyIn (e .message)) key) refl
   where
     l : Line
-    l = trade e (originOf (e ∷ es) (newKey (e .message))) later
+    l = trade e (originOf (e ∷ es) (keyIn (e .message))) later
 
     -- the new line bears the key
     hit : NoRepeat (keysOf (A ++ (l ∷ []))) → same (l .key) key ≡ true → originIn (named key (A ++ (l ∷ []))) ≡ originOf (e ∷ es) key
     hit v s =
         let q : l .key ≡ key = same-is (l .key) key .0 s in
-        let f : listed (l .key) (keysOf A) ≡ false = no-repeat-last (keysOf A) (l .key) (rw (map-append (λ (x : Line). x .key) A (l ∷ [])) at v) in
-        let g : listed key (keysOf A) ≡ false = ap (λ (k : List ℕ). listed k (keysOf A)) (sym q) ∙ f in
+        let f : isIn (l .key) (keysOf A) ≡ false = no-repeat-last (keysOf A) (l .key) (rw (map-append (λ (x : Line). x .key) A (l ∷ [])) at v) in
+        let g : isIn key (keysOf A) ≡ false = ap (λ (k : List ℕ). isIn k (keysOf A)) (sym q) ∙ f in
         ap originIn (named-append key A (l ∷ []) ∙ ap (λ (t : Bool). cond t (named key A) (named key (l ∷ []))) g ∙ named-hit key l [] s)
         ∙ ap (originOf (e ∷ es)) q
 
     -- it bears another
     miss : same (l .key) key ≡ false → named key (A ++ (l ∷ [])) ≡ named key A
-    miss s = named-append key A (l ∷ []) ∙ ap (cond (listed key (keysOf A)) (named key A)) (named-miss key l [] s) ∙ either (listed key (keysOf A)) refl
+    miss s = named-append key A (l ∷ []) ∙ ap (cond (isIn key (keysOf A)) (named key A)) (named-miss key l [] s) ∙ either (isIn key (keysOf A)) refl
       where
-        either : (t : Bool) → listed key (keysOf A) ≡ t → cond t (named key A) (named key []) ≡ named key A
+        either : (t : Bool) → isIn key (keysOf A) ≡ t → cond t (named key A) (named key []) ≡ named key A
         either true t = refl
         either false t = named-none key [] refl ∙ sym (named-none key A t)
 
-    go : (t : Bool) → makesNew (e .message) ≡ t → (s : Bool) → same (newKey (e .message)) key ≡ s → originIn (named key (A ++ made e es later)) ≡ originOf (e ∷ es) key
+    go : (t : Bool) → makesIn (e .message) ≡ t → (s : Bool) → same (keyIn (e .message)) key ≡ s → originIn (named key (A ++ made e es later)) ≡ originOf (e ∷ es) key
     go true t true s = rw t (hit (rw t at u) s)
     go true t false s = rw t (ap originIn (miss s) ∙ i ∙ sym (origin-none e es key (rw (t, s))))
     go false t s q = rw t (rw append-nil (i ∙ sym (origin-none e es key (rw t))))
@@ -170,108 +178,133 @@ module _ (n : ℕ) (r : Record) (es : List Taken) where
   abbrev e : Taken
   e = record { number = n; message = r }
 
-  trade-is : Tests r false true false false false → trade e (originOf (e ∷ es) (newKey r)) [] ≡ madeLine n r
+  trade-is : kindIn r ≡ Trade → trade e (originOf (e ∷ es) (keyIn r)) [] ≡ madeLine n r
   unfolding originOf
-  trade-is t = rw (t .trade, t .correction, same-refl (oldKey r))
+  trade-is q = rw (q, same-refl (oldKey r))
 
-  correction-is : Tests r false false false true false → NoRepeat (keysOf (tradesOf es))
-      → trade e (originOf (e ∷ es) (newKey r)) [] ≡ correctedLine (lineFound (tradesOf es) (lineWith (oldKey r) (tradesOf es))) r
+  correction-is : kindIn r ≡ Correction → NoRepeat (keysOf (tradesOf es))
+      → trade e (originOf (e ∷ es) (keyIn r)) [] ≡ correctedLine (lineFound (tradesOf es) (lineWith (oldKey r) (tradesOf es))) r
   unfolding originOf named
-  correction-is t u =
+  correction-is q u =
       let o : originOf es (oldKey r) ≡ originIn (named (oldKey r) (tradesOf es)) = sym (origin-is (oldKey r) [] es u) in
-      rw (t .trade, t .correction, same-refl (r .centre ∷ r .new .control), o)
+      rw (q, same-refl (r .centre ∷ r .new .control), o)
 
-  lines-step : NoRepeat (keysOf (tradesOf es)) → linesAfter n r (tradesOf es) ≡ tradesOf (e ∷ es)
-  unfolding linesAfter tradesBut
-  lines-step u = go (letter-of r)
+  lines-step : NoRepeat (keysOf (tradesOf es)) → linesFor (kindIn r) n r (tradesOf es) ≡ tradesOf (e ∷ es)
+  unfolding linesFor tradesBut
+  lines-step u = go (kindIn r) refl
     where
       -- T and C put a line behind the others, X and C kill one
-      behind : (l : Line) → namesOld r ≡ false → makesNew r ≡ true → trade e (originOf (e ∷ es) (newKey r)) [] ≡ l → tradesOf (e ∷ es) ≡ tradesOf es ++ (l ∷ [])
-      behind l o m q = rw (o, m) (ap {B = List Line} (λ x. tradesOf es ++ (x ∷ [])) q)
+      behind : (l : Line) → namesIn r ≡ false → makesIn r ≡ true → trade e (originOf (e ∷ es) (keyIn r)) [] ≡ l
+          → tradesOf es ++ (l ∷ []) ≡ tradesOf (e ∷ es)
+      behind l o m q = rw (o, m) (ap {B = List Line} (λ x. tradesOf es ++ (x ∷ [])) (sym q))
 
-      killed : namesOld r ≡ true → makesNew r ≡ false → tradesOf (e ∷ es) ≡ killFound (tradesOf es) (lineWith (oldKey r) (tradesOf es))
-      killed o m = rw (o, m) (append-nil _ ∙ cut-first (oldKey r) es u)
+      killed : namesIn r ≡ true → makesIn r ≡ false → killFound (tradesOf es) (lineWith (oldKey r) (tradesOf es)) ≡ tradesOf (e ∷ es)
+      killed o m = rw (o, m) (sym (append-nil _ ∙ cut-first (oldKey r) es u))
 
-      both : (l : Line) → namesOld r ≡ true → makesNew r ≡ true → trade e (originOf (e ∷ es) (newKey r)) [] ≡ l → tradesOf (e ∷ es) ≡ killFound (tradesOf es) (lineWith (oldKey r) (tradesOf es)) ++ (l ∷ [])
-      both l o m q = rw (o, m) (ap₂ {C = List Line} (λ x y. x ++ (y ∷ [])) (cut-first (oldKey r) es u) q)
+      both : (l : Line) → namesIn r ≡ true → makesIn r ≡ true → trade e (originOf (e ∷ es) (keyIn r)) [] ≡ l
+          → killFound (tradesOf es) (lineWith (oldKey r) (tradesOf es)) ++ (l ∷ []) ≡ tradesOf (e ∷ es)
+      both l o m q = rw (o, m) (sym (ap₂ {C = List Line} (λ x y. x ++ (y ∷ [])) (cut-first (oldKey r) es u) q))
 
-      neither : namesOld r ≡ false → makesNew r ≡ false → tradesOf (e ∷ es) ≡ tradesOf es
-      neither o m = rw (o, m) (append-nil _)
+      neither : namesIn r ≡ false → makesIn r ≡ false → tradesOf es ≡ tradesOf (e ∷ es)
+      neither o m = rw (o, m) (sym (append-nil _))
 
-      go : Letter r → linesAfter n r (tradesOf es) ≡ tradesOf (e ∷ es)
-      go (S t) = sym (neither (rw (t .cancel, t .correction)) (rw (t .trade, t .correction)) ∙ rw (t .trade, t .cancel, t .correction))
-      go (T t) = sym (behind (madeLine n r) (rw (t .cancel, t .correction)) (rw (t .trade)) (trade-is t) ∙ rw (t .trade))
-      go (X t) = sym (killed (rw (t .cancel)) (rw (t .trade, t .correction)) ∙ rw (t .trade, t .cancel))
-      go (C t) = sym (both _ (rw (t .cancel, t .correction)) (rw (t .trade, t .correction)) (correction-is t u) ∙ rw (t .trade, t .cancel, t .correction))
-      go (J t) = sym (neither (rw (t .cancel, t .correction)) (rw (t .trade, t .correction)) ∙ rw (t .trade, t .cancel, t .correction))
-      go (none t) = sym (neither (rw (t .cancel, t .correction)) (rw (t .trade, t .correction)) ∙ rw (t .trade, t .cancel, t .correction))
+      go : (k : Kind) → kindIn r ≡ k → linesFor k n r (tradesOf es) ≡ tradesOf (e ∷ es)
+      go Event q = neither (ap namesOld q) (ap makesNew q)
+      go Trade q = behind (madeLine n r) (ap namesOld q) (ap makesNew q) (trade-is q)
+      go Cancel q = killed (ap namesOld q) (ap makesNew q)
+      go Correction q = both _ (ap namesOld q) (ap makesNew q) (correction-is q u)
+      go Summary q = neither (ap namesOld q) (ap makesNew q)
+      go Other q = neither (ap namesOld q) (ap makesNew q)
 
-  lines-count : length (tradesOf (e ∷ es)) ≡ cond (makesNew r) (length (tradesOf es) + 1) (length (tradesOf es))
+  lines-count : length (tradesOf (e ∷ es)) ≡ cond (makesIn r) (length (tradesOf es) + 1) (length (tradesOf es))
   lines-count =
       sym (length-map (tradesOf (e ∷ es)) (λ (l : Line). l .key))
       ∙ ap length (keys-more [] e es)
       ∙ length-append (keysOf (tradesOf es)) (brings r)
-      ∙ rw (length-map (tradesOf es) (λ (l : Line). l .key)) (go (makesNew r))
+      ∙ rw (length-map (tradesOf es) (λ (l : Line). l .key)) (go (makesIn r))
     where
-      go : (t : Bool) → length (tradesOf es) + length {A = List ℕ} (cond t (newKey r ∷ []) []) ≡ cond t (length (tradesOf es) + 1) (length (tradesOf es))
+      go : (t : Bool) → length (tradesOf es) + length {A = List ℕ} (cond t (keyIn r ∷ []) []) ≡ cond t (length (tradesOf es) + 1) (length (tradesOf es))
       go true = refl
       go false = omega arith
 
-  phase-step : cond (isEvent r) (phaseOf (r .event)) (phaseAfter es) ≡ phaseAfter (e ∷ es)
+  phase-step : cond (eventIn r) (phaseOf (r .event)) (phaseAfter es) ≡ phaseAfter (e ∷ es)
   unfolding phaseAfter
   phase-step = refl
 
 -- ---- rows
 
-pub symbols-are : (es : List Taken) (sheet : List Listing) → symbolsOf (map (rowOf es) sheet) ≡ symbolsIn sheet
+pub sheet-is : (es : List Taken) (sheet : List Listing) → sheetIn (map (rowOf es) sheet) ≡ sheet
 unfolding rowOf
-symbols-are es [] = refl
-symbols-are es (l ∷ sheet) = ap {B = List (List ℕ)} (λ x. l .symbol ∷ x) (symbols-are es sheet)
+sheet-is es [] = refl
+sheet-is es (l ∷ sheet) = ap {B = List Listing} (λ x. l ∷ x) (sheet-is es sheet)
 
-keep-up : (r : Record) (w : Row) (ws : List Row) (f : Found) → keepFound r (w ∷ ws) (up f) ≡ w ∷ keepFound r ws f
-keep-up r w ws Nothing = refl
-keep-up r w ws (At i) = refl
+row-up : (change : Row → Row) (w : Row) (ws : List Row) (f : Found) → rowFound change (w ∷ ws) (up f) ≡ w ∷ rowFound change ws f
+row-up change w ws Nothing = refl
+row-up change w ws (At i) = refl
 
 -- one row changed, that of the message's symbol: g and h are what the clerk works out for the rows before and after
-module _ (r : Record) (g h : Listing → Row) (hit : (l : Listing) → same (l .symbol) (r .symbol) ≡ true → kept r (g l) ≡ h l)
-    (miss : (l : Listing) → same (l .symbol) (r .symbol) ≡ false → g l ≡ h l) (keeps : (l : Listing) → g l .symbol ≡ l .symbol) where
-  others : (sheet : List Listing) → listed (r .symbol) (symbolsIn sheet) ≡ false → map g sheet ≡ map h sheet
+module _ (r : Record) (change : Row → Row) (g h : Listing → Row) (hit : (l : Listing) → same (l .symbol) (r .symbol) ≡ true → change (g l) ≡ h l)
+    (miss : (l : Listing) → same (l .symbol) (r .symbol) ≡ false → g l ≡ h l) where
+  others : (sheet : List Listing) → isIn (r .symbol) (symbolsIn sheet) ≡ false → map g sheet ≡ map h sheet
   others [] d = refl
   others (l ∷ sheet) d =
       ap₂ {C = List Row} (λ a b. a ∷ b) (miss l (or-false-left (same (l .symbol) (r .symbol)) _ d)) (others sheet (or-false-right (same (l .symbol) (r .symbol)) _ d))
 
-  row-step : (sheet : List Listing) → NoRepeat (symbolsIn sheet) → keepFound r (map g sheet) (rowWith (r .symbol) (map g sheet)) ≡ map h sheet
+  row-step : (sheet : List Listing) → NoRepeat (symbolsIn sheet) → rowFound change (map g sheet) (listingOf (r .symbol) sheet) ≡ map h sheet
   unfolding first
   row-step [] d = refl
   row-step (l ∷ sheet) d = go (same (l .symbol) (r .symbol)) refl (row-step sheet (d .1))
     where
-      go : (t : Bool) → same (l .symbol) (r .symbol) ≡ t → keepFound r (map g sheet) (rowWith (r .symbol) (map g sheet)) ≡ map h sheet
-          → keepFound r (g l ∷ map g sheet) (rowWith (r .symbol) (g l ∷ map g sheet)) ≡ h l ∷ map h sheet
+      go : (t : Bool) → same (l .symbol) (r .symbol) ≡ t → rowFound change (map g sheet) (listingOf (r .symbol) sheet) ≡ map h sheet
+          → rowFound change (g l ∷ map g sheet) (listingOf (r .symbol) (l ∷ sheet)) ≡ h l ∷ map h sheet
       go true t i =
-          ap (keepFound r (g l ∷ map g sheet)) (first-hit (isOf (r .symbol)) (g l) (map g sheet) (ap (λ (s : List ℕ). same s (r .symbol)) (keeps l) ∙ t))
+          ap (rowFound change (g l ∷ map g sheet)) (first-hit (isOf (r .symbol)) l sheet t)
           ∙ ap₂ {C = List Row} (λ a b. a ∷ b) (hit l t) (others sheet (rw (same-is (l .symbol) (r .symbol) .0 t) at (d .0)))
       go false t i =
-          ap (keepFound r (g l ∷ map g sheet)) (first-miss (isOf (r .symbol)) (g l) (map g sheet) (ap (λ (s : List ℕ). same s (r .symbol)) (keeps l) ∙ t))
-          ∙ keep-up r (g l) (map g sheet) (rowWith (r .symbol) (map g sheet))
+          ap (rowFound change (g l ∷ map g sheet)) (first-miss (isOf (r .symbol)) l sheet t)
+          ∙ row-up change (g l) (map g sheet) (listingOf (r .symbol) sheet)
           ∙ ap₂ {C = List Row} (λ a b. a ∷ b) (miss l t) i
 
--- an event is no J
-event-silent : (r : Record) → isEvent r ≡ true → isSummary r ≡ false
-event-silent r s = ne-eqb (r .letter) 74 (λ q. omega (arith, eqb-true (r .letter) 83 s))
-
 module _ (n : ℕ) (r : Record) (es : List Taken) where
-  rows-step : (sheet : List Listing) → NoRepeat (symbolsIn sheet) → rowsAfter r (map (rowOf es) sheet) ≡ map (rowOf (e n r es ∷ es)) sheet
-  unfolding rowsAfter rowOf summaryOf reportedOf
-  rows-step sheet d = go (isEvent r) refl (isSummary r) refl
-    where
-      event : isEvent r ≡ true → isSummary r ≡ false → (ls : List Listing) → map (rowOf es) ls ≡ map (rowOf (e n r es ∷ es)) ls
-      event s j [] = refl
-      event s j (l ∷ ls) = ap₂ {C = List Row} (λ a b. a ∷ b) (rw (s, j)) (event s j ls)
+  abbrev before : Listing → Row
+  before = rowOf es
 
-      go : (s : Bool) → isEvent r ≡ s → (j : Bool) → isSummary r ≡ j → rowsAfter r (map (rowOf es) sheet) ≡ map (rowOf (e n r es ∷ es)) sheet
-      go true s j t = rw s (event s (event-silent r s) sheet)
-      go false s true t = rw s (row-step r (rowOf es) (rowOf (e n r es ∷ es)) (λ l q. rw (s, t, q)) (λ l q. rw (s, t, q)) (λ l. refl) sheet d)
-      go false s false t = rw s (row-step r (rowOf es) (rowOf (e n r es ∷ es)) (λ l q. rw (s, t, q)) (λ l q. rw (s, t, q)) (λ l. refl) sheet d)
+  abbrev behind : Listing → Row
+  behind = rowOf (e n r es ∷ es)
+
+  -- a message that is no J and sets no volume
+  silent : summaryIn r ≡ false → setsIn r ≡ false → (sheet : List Listing) → map before sheet ≡ map behind sheet
+  unfolding rowOf summaryOf reportedOf
+  silent j s [] = refl
+  silent j s (l ∷ sheet) = ap₂ {C = List Row} (λ a b. a ∷ b) (rw (j, s)) (silent j s sheet)
+
+  -- one that sets a volume, and is no J, or is one
+  reports : summaryIn r ≡ false → setsIn r ≡ true → (l : Listing)
+      → (same (l .symbol) (r .symbol) ≡ true → keeping r (before l) ≡ behind l) × (same (l .symbol) (r .symbol) ≡ false → before l ≡ behind l)
+  unfolding rowOf summaryOf reportedOf
+  reports j s l = (λ q. rw (j, s, q), λ q. rw (j, s, q))
+
+  sums : summaryIn r ≡ true → setsIn r ≡ true → (l : Listing)
+      → (same (l .symbol) (r .symbol) ≡ true → summing r (before l) ≡ behind l) × (same (l .symbol) (r .symbol) ≡ false → before l ≡ behind l)
+  unfolding rowOf summaryOf reportedOf
+  sums j s l = (λ q. rw (j, s, q), λ q. rw (j, s, q))
+
+  rows-step : (sheet : List Listing) → NoRepeat (symbolsIn sheet) → rowsFor (kindIn r) r (map before sheet) ≡ map behind sheet
+  unfolding rowsFor
+  rows-step sheet d = go (kindIn r) refl
+    where
+      in-row : (change : Row → Row) → ((l : Listing)
+          → (same (l .symbol) (r .symbol) ≡ true → change (before l) ≡ behind l) × (same (l .symbol) (r .symbol) ≡ false → before l ≡ behind l))
+          → rowFound change (map before sheet) (listingOf (r .symbol) (sheetIn (map before sheet))) ≡ map behind sheet
+      in-row change k = rw (sheet-is es sheet) (row-step r change before behind (λ l. k l .0) (λ l. k l .1) sheet d)
+
+      go : (k : Kind) → kindIn r ≡ k → rowsFor k r (map before sheet) ≡ map behind sheet
+      go Event q = silent (ap isSummary q) (ap setsVolume q) sheet
+      go Trade q = in-row (keeping r) (reports (ap isSummary q) (ap setsVolume q))
+      go Cancel q = in-row (keeping r) (reports (ap isSummary q) (ap setsVolume q))
+      go Correction q = in-row (keeping r) (reports (ap isSummary q) (ap setsVolume q))
+      go Summary q = in-row (summing r) (sums (ap isSummary q) (ap setsVolume q))
+      go Other q = silent (ap isSummary q) (ap setsVolume q) sheet
 
 -- ---- what the clerk takes, the table does not refuse
 
@@ -279,7 +312,7 @@ module _ (sheet : List Listing) (limit : ℕ) where
   -- each message of the list, after those before it
   abbrev pub Took : List Taken → Type 0
   Took [] = Unit {0}
-  Took (e ∷ es) = Passed (phaseAfter es) (symbolsIn sheet) (tradesOf es) limit (e .message) × Took es
+  Took (e ∷ es) = Passed (basisAfter sheet limit es) (e .message) × Took es
 
   pub took : (ms : List (List ℕ)) → Took (takenOf sheet limit ms)
   unfolding takenOf
@@ -290,17 +323,17 @@ module _ (sheet : List Listing) (limit : ℕ) where
       es = takenOf sheet limit ms
 
       go : (t : Bool) → eqb (answerTo sheet limit es m) 0 ≡ t → Took es → Took (cond t (record { number = suc (length ms); message = readOf m .found } ∷ es) es)
-      go true t i = (passed (phaseAfter es) (symbolsIn sheet) (tradesOf es) limit (readOf m) (eqb-true (answerTo sheet limit es m) 0 t), i)
+      go true t i = (passed (basisAfter sheet limit es) (readOf m) (eqb-true (answerTo sheet limit es m) 0 t), i)
       go false t i = i
 
   -- no two trades bear one key
   unique : (es : List Taken) → Took es → NoRepeat (keysOf (tradesOf es))
   unfolding tradesBut
   unique [] w = tt
-  unique (e ∷ es) w = rw (keys-more [] e es) (go (makesNew (e .message)) refl (unique es (w .1)))
+  unique (e ∷ es) w = rw (keys-more [] e es) (go (makesIn (e .message)) refl (unique es (w .1)))
     where
-      go : (t : Bool) → makesNew (e .message) ≡ t → NoRepeat (keysOf (tradesOf es)) → NoRepeat (keysOf (tradesOf es) ++ cond t (newKey (e .message) ∷ []) [])
-      go true t u = no-repeat-snoc (keysOf (tradesOf es)) (newKey (e .message)) u (sym (borne-is (newKey (e .message)) (tradesOf es)) ∙ w .0 .isNew t)
+      go : (t : Bool) → makesIn (e .message) ≡ t → NoRepeat (keysOf (tradesOf es)) → NoRepeat (keysOf (tradesOf es) ++ cond t (keyIn (e .message) ∷ []) [])
+      go true t u = no-repeat-snoc (keysOf (tradesOf es)) (keyIn (e .message)) u (sym (borne-is (keyIn (e .message)) (tradesOf es)) ∙ w .0 .isNew t)
       go false t u = rw append-nil u
 
   pub one-trade-per-key : (ms : List (List ℕ)) → NoRepeat (keysOf (tradesOf (takenOf sheet limit ms)))
@@ -310,7 +343,8 @@ module _ (sheet : List Listing) (limit : ℕ) where
 
   pub content-is : (es : List Taken) (n : ℕ) (m : List ℕ) → content limit (bookBy sheet es n) m ≡ answerTo sheet limit es m
   unfolding content bookBy
-  content-is es n m = rw (symbols-are es sheet)
+  content-is es n m =
+      ap (λ (x : List Listing). given (contentTable (record { phase = phaseAfter es; sheet = x; ledger = searched (tradesOf es) limit }) (readOf m)) .number) (sheet-is es sheet)
 
   module _ (d : NoRepeat (symbolsIn sheet)) (es : List Taken) (n : ℕ) (m : List ℕ) (u : NoRepeat (keysOf (tradesOf es))) where
     abbrev more : List Taken
@@ -349,7 +383,7 @@ listedBook sheet =
     record {
       wanted = 1;
       phase = 0;
-      rows = map (λ (l : Listing). listedRow (l .symbol) (l .close)) sheet;
+      rows = map listedRow sheet;
       lines = [];
       listed = length sheet;
       used = 0;
@@ -368,13 +402,13 @@ book-is-clerks sheet limit d ms = plays sheet limit d (listedBook sheet) (listed
 pub sheet-once : (limit : ℕ) (sheet ls : List Listing) → NoRepeat (symbolsIn sheet) → NoRepeat (symbolsIn (sheetFrom limit sheet ls))
 unfolding sheetFrom
 sheet-once limit sheet [] d = d
-sheet-once limit sheet (l ∷ ls) d = sheet-once limit (cond (eqb given 0) (sheet ++ (l ∷ [])) sheet) ls (go (eqb given 0) refl)
+sheet-once limit sheet (l ∷ ls) d = sheet-once limit (cond (eqb told 0) (sheet ++ (l ∷ [])) sheet) ls (go (eqb told 0) refl)
   where
-    given : ℕ
-    given = lowest (listTable 1 (symbolsIn sheet) limit (l .symbol) (l .close))
+    told : ℕ
+    told = given (listTable 1 sheet limit l) .number
 
-    go : (t : Bool) → eqb given 0 ≡ t → NoRepeat (symbolsIn (cond t (sheet ++ (l ∷ [])) sheet))
+    go : (t : Bool) → eqb told 0 ≡ t → NoRepeat (symbolsIn (cond t (sheet ++ (l ∷ [])) sheet))
     go true t =
         rw (map-append (λ (x : Listing). x .symbol) sheet (l ∷ []))
-        (no-repeat-snoc (symbolsIn sheet) (l .symbol) d (listable 1 (symbolsIn sheet) limit (l .symbol) (l .close) (eqb-true given 0 t) .isNew))
+        (no-repeat-snoc (symbolsIn sheet) (l .symbol) d (sym (listed-is-in (l .symbol) sheet) ∙ listable 1 sheet limit l (eqb-true told 0 t) .isNew))
     go false t = d

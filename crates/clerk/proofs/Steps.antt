@@ -1,5 +1,5 @@
 -- A call, as its contract tells it, is a step on lists: what `bookOf` reads after it is what the step makes of what it read before.
--- A sound book stays sound, and rooms of bytes stay rooms of bytes.
+-- A sound book stays sound.
 -- Assumes nothing.
 use Prim.Native.Nat.{ℕ, _+_, _^_, _≤_, _<_, min}
 use mathlib.Core.Path.{_≡_, refl, ap, sym, _∙_}
@@ -9,35 +9,47 @@ use native.Mathlib.Omega.{arith}
 use native.Mathlib.Numerals.{add-one}
 use borrow.Author.Tests.{eqb-true, eqb-false, le-leb, lt-leb, leb-false}
 use lib.Dec.{eqb}
-use lib.ListN.{length, getD, set}
+use lib.ListN.{length, getD, set, length-map}
 use lib.Seq.{getD-set-same, set-set}
 use Rattle.octets.specs.Run.{Bytes}
+use Rattle.numbers.proofs.Laws.{up-is}
+use Rattle.answers.specs.Cases.{Case, given, inBook}
 use Rattle.records.specs.Fits.{RecordFits}
 use Rattle.message.specs.Reading.{readOf}
 use Rattle.records.specs.declared.Record.{Record}
 use Rattle.message.proofs.Fitting.{read-fits}
 use Rattle.cells.specs.declared.Found.{Found}
 use Rattle.cells.specs.declared.Found.the-variants.{Nothing, At}
-use Rattle.lines.specs.declared.Line.{Line}
-use Rattle.rows.specs.declared.Row.{Row}
-use Rattle.lines.specs.Lines.{lineLimit, usedLines, bears, lineWith, noLine, lineIn, withLine, withDead}
-use Rattle.rows.specs.Rows.{rowLimit, usedRows, isOf, rowWith, noRow, withRow, withReport, withSummary}
-use Rattle.lines.specs.Changed.{dead}
-use Rattle.rows.specs.Changed.{listedRow, reporting, summarised}
 use Rattle.cells.proofs.Slabs.{found-below}
+use Rattle.kinds.specs.declared.Kind.{Kind}
+use Rattle.kinds.specs.declared.Kind.the-variants.{Event, Trade, Cancel, Correction, Summary, Other}
+use Rattle.kinds.specs.Kinds.{isEvent, namesOld, makesNew}
+use Rattle.lines.specs.declared.Line.{Line}
+use Rattle.lines.specs.Lines.{lineLimit, usedLines, bears, lineWith, noLine, lineIn, withLine, withDead}
+use Rattle.lines.specs.Changed.{dead}
 use Rattle.lines.proofs.Slabs.{lines-put, lines-kill, line-in, dead-length, used-lines-length}
+use Rattle.rows.specs.declared.Listing.{Listing}
+use Rattle.rows.specs.declared.Row.{Row}
+use Rattle.rows.specs.Cell.{atSummary}
+use Rattle.rows.specs.Rows.{rowLimit, usedRows, sheetIn, isOf, listingOf, noRow, withRow, withReport, withSummary}
+use Rattle.rows.specs.Changed.{listedRow, summarised, ListingFits}
 use Rattle.rows.proofs.Slabs.{rows-put, rows-report, rows-summary, row-length, used-rows-length}
-use Rattle.keys.specs.Messages.{isEvent, isCorrection, isSummary, namesOld, makesNew, phaseOf, oldKey}
-use Rattle.table.specs.Table.{Case, symbolsOf, isFound, listed, lowest, numberTable, listTable}
-use Rattle.take.specs.Taking.{madeLine, correctedLine, linesBy, rowsBy, indexOf}
-use Rattle.table.proofs.Tables.{listed-found, rows-full, Wanted, number-wanted, number-content}
-use Rattle.book.specs.declared.counters.Counters.{Counters}
-use Rattle.book.specs.Counting.{freshCounters, usedUp, oneRowMore, takenBy, sound}
-use Rattle.book.specs.Calls.{listAnswer, listSaid, listRows, deliverAnswer, deliverSaid, deliverRows, deliverLines}
-use Rattle.book.proofs.Sound.{Within, sound-gives}
-use Rattle.book.proofs.Demand1.{refused-keeps, touches-only, made-fits, corrected-fits}
-use Rattle.clerk.specs.Steps.{Book, bookOf, linesAfter, rowsAfter, taking, usingUp, content, after, next, listing}
-use Rattle.clerk.proofs.Letters.{Tests, Letter, S, T, X, C, J, none, letter-of, Passed, passed, listable}
+use Rattle.counters.specs.declared.Counters.{Counters}
+use Rattle.counters.specs.Phases.{phaseOf, lastPhase}
+use Rattle.counters.specs.Counting.{lastNumber, freshCounters, usedUp, oneRowMore, takenBy, sound}
+use Rattle.counters.proofs.Sound.{Within, sound-gives}
+use Rattle.keys.specs.Keys.{kindIn, oldKey}
+use Rattle.table.specs.Table.{isFound, isListed, numberTable}
+use Rattle.table.proofs.Tables.{rows-full, Wanted, number-wanted}
+use Rattle.take.specs.Taking.{madeLine, correctedLine, corrected, linesBy, rowsBy, indexOf}
+use Rattle.book.specs.State.{State, Arrival, wantedIn, rowsIn, sheetOf, linesIn, basisOf, soundIn}
+use Rattle.book.specs.Calls.{listTable, listAnswer, withListing, listed, messageGiven, spent, delivered}
+use Rattle.book.specs.Calls as Calls
+use Rattle.book.proofs.Demand1.{refused-keeps, answer-content}
+use Rattle.book.proofs.Touches.{touches-only, made-fits, corrected-fits}
+use Rattle.clerk.specs.Messages.{eventIn, namesIn, makesIn}
+use Rattle.clerk.specs.Steps.{Book, bookOf, linesFor, keeping, summing, rowsFor, taking, usingUp, content, after, next, listing}
+use Rattle.clerk.proofs.Passing.{Passed, passed, listable}
 
 -- ---- what a search found
 
@@ -47,28 +59,58 @@ there (At i) e = (i, refl)
 
 -- ---- a taken message: the counters
 
--- what becomes of each counter
+-- what becomes of each counter of a sound book
 abbrev moved : Record → Counters → Counters
 moved r c =
     record {
       wanted = c .wanted + 1;
-      phase = cond (isEvent r) (phaseOf (r .event)) (c .phase);
+      phase = cond (eventIn r) (phaseOf (r .event)) (c .phase);
       rows = c .rows;
-      lines = cond (makesNew r) (c .lines + 1) (c .lines);
+      lines = cond (makesIn r) (c .lines + 1) (c .lines);
       taken = c .taken + 1;
     }
 
-taken-is : (r : Record) (c : Counters) → takenBy r c ≡ moved r c
-unfolding takenBy
-taken-is r c = go (letter-of r)
-  where
-    go : Letter r → takenBy r c ≡ moved r c
-    go (S t) = rw (t .event, t .trade, t .correction)
-    go (T t) = rw (t .event, t .trade)
-    go (X t) = rw (t .event, t .trade, t .correction)
-    go (C t) = rw (t .event, t .trade, t .correction)
-    go (J t) = rw (t .event, t .trade, t .correction)
-    go (none t) = rw (t .event, t .trade, t .correction)
+-- a word of the counters of a sound book is far from the greatest number
+record Small (c : Counters) : Type 0 where
+  pub wanted : c .wanted ≤ 4294967296
+  pub rows : c .rows ≤ 4294967296
+  pub lines : c .lines ≤ 4294967296
+  pub taken : c .taken ≤ 4294967296
+
+small-is : (c : Counters) (rows lines : ℕ) → Within c rows lines → Small c
+small-is c rows lines w =
+    record {
+      wanted = w .greatest;
+      rows = omega (arith, w .rowsFit);
+      lines = omega (arith, w .linesFit);
+      taken = omega (arith, w .takenFit, w .greatest);
+    }
+
+module _ (c : Counters) (h : Small c) where
+  used-up-is : usedUp c ≡ record { wanted = c .wanted + 1; phase = c .phase; rows = c .rows; lines = c .lines; taken = c .taken }
+  used-up-is = rw (up-is (c .wanted) (omega (arith, h .wanted)))
+
+  one-row-is : oneRowMore c ≡ record { wanted = c .wanted; phase = c .phase; rows = c .rows + 1; lines = c .lines; taken = c .taken }
+  one-row-is = rw (up-is (c .rows) (omega (arith, h .rows)))
+
+  taken-is : (r : Record) → takenBy (kindIn r) (r .event) c ≡ moved r c
+  unfolding takenBy
+  taken-is r =
+      rw (up-is (c .wanted) (omega (arith, h .wanted)), up-is (c .taken) (omega (arith, h .taken)), up-is (c .lines) (omega (arith, h .lines)))
+      (go (kindIn r))
+    where
+      with-phase : ℕ → ℕ → Counters
+      with-phase phase lines = record { wanted = c .wanted + 1; phase = phase; rows = c .rows; lines = lines; taken = c .taken + 1 }
+
+      go : (k : Kind)
+          → cond (isEvent k) (with-phase (phaseOf (r .event)) (c .lines)) (cond (makesNew k) (with-phase (c .phase) (c .lines + 1)) (with-phase (c .phase) (c .lines)))
+          ≡ with-phase (cond (isEvent k) (phaseOf (r .event)) (c .phase)) (cond (makesNew k) (c .lines + 1) (c .lines))
+      go Event = refl
+      go Trade = refl
+      go Cancel = refl
+      go Correction = refl
+      go Summary = refl
+      go Other = refl
 
 -- ---- a taken message: the lines
 
@@ -91,39 +133,32 @@ module _ (m : List ℕ) (used n : ℕ) (r : Record) (fits : RecordFits r) (small
     line-dead = lines-kill m used i below
 
     -- C
-    line-corrected : isCorrection r ≡ true → length old < lineLimit (length m)
-        → usedLines (withLine (withDead m i) used (correctedLine (lineIn m i) r)) (used + 1) ≡ set old i (dead (getD old i noLine)) ++ (correctedLine (getD old i noLine) r ∷ [])
-    line-corrected c room =
+    line-corrected : length old < lineLimit (length m)
+        → usedLines (corrected m used r i) (used + 1) ≡ set old i (dead (getD old i noLine)) ++ (correctedLine (getD old i noLine) r ∷ [])
+    line-corrected room =
         let e = used-lines-length m used in
         let d : length (withDead m i) ≡ length m = dead-length m i in
         let l : correctedLine (lineIn m i) r ≡ correctedLine (getD old i noLine) r = ap (λ (x : Line). correctedLine x r) (sym (line-in m used i below)) in
         let less : used < lineLimit (length (withDead m i)) = rw d (omega arith) in
-        rw (add-one used, lines-put (withDead m i) used (correctedLine (lineIn m i) r) (corrected-fits r fits c m i bytes) less, line-dead, l)
+        rw (add-one used, lines-put (withDead m i) used (correctedLine (lineIn m i) r) (corrected-fits r fits m i bytes) less, line-dead, l)
 
   -- what the message does to the lent lines, and to the lines
-  module _ (phase : ℕ) (symbols : List (List ℕ)) (p : Passed phase symbols old (lineLimit (length m)) r) where
-    lines-taken : usedLines (linesBy m used n r (indexOf (lineWith (oldKey r) old))) (cond (makesNew r) (used + 1) used) ≡ linesAfter n r old
-    unfolding linesBy linesAfter
-    lines-taken = go (letter-of r)
-      where
-        Goal : Type 0
-        Goal = usedLines (linesBy m used n r (indexOf (lineWith (oldKey r) old))) (cond (makesNew r) (used + 1) used) ≡ linesAfter n r old
+  lines-taken : (makesIn r ≡ true → length old < lineLimit (length m)) → (namesIn r ≡ true → isFound (lineWith (oldKey r) old) ≡ true)
+      → usedLines (linesBy (kindIn r) m used n r (indexOf (lineWith (oldKey r) old))) (cond (makesIn r) (used + 1) used) ≡ linesFor (kindIn r) n r old
+  unfolding linesBy linesFor
+  lines-taken room borne = go (kindIn r) room borne
+    where
+      named : isFound (lineWith (oldKey r) old) ≡ true → (i : ℕ) × (lineWith (oldKey r) old ≡ At i)
+      named h = there (lineWith (oldKey r) old) h
 
-        named : namesOld r ≡ true → (i : ℕ) × (lineWith (oldKey r) old ≡ At i)
-        named h = there (lineWith (oldKey r) old) (p .isBorne h)
-
-        corrected : Tests r false false false true false → (i : ℕ) → lineWith (oldKey r) old ≡ At i → Goal
-        corrected t i f =
-            let done = line-corrected i f (t .correction) (p .hasRoom (rw (t .trade, t .correction))) in
-            rw (t .trade, t .cancel, t .correction, f) (rw (t .correction) at done)
-
-        go : Letter r → Goal
-        go (S t) = rw (t .trade, t .cancel, t .correction)
-        go (T t) = rw (t .trade) (line-made (p .hasRoom (rw (t .trade))))
-        go (X t) = let f = named (rw (t .cancel)) in rw (t .trade, t .cancel, t .correction, f .1) (line-dead (f .0) (f .1))
-        go (C t) = let f = named (rw (t .cancel, t .correction)) in corrected t (f .0) (f .1)
-        go (J t) = rw (t .trade, t .cancel, t .correction)
-        go (none t) = rw (t .trade, t .cancel, t .correction)
+      go : (k : Kind) → (makesNew k ≡ true → length old < lineLimit (length m)) → (namesOld k ≡ true → isFound (lineWith (oldKey r) old) ≡ true)
+          → usedLines (linesBy k m used n r (indexOf (lineWith (oldKey r) old))) (cond (makesNew k) (used + 1) used) ≡ linesFor k n r old
+      go Event room borne = refl
+      go Trade room borne = line-made (room refl)
+      go Cancel room borne = let f = named (borne refl) in rw (f .1) (line-dead (f .0) (f .1))
+      go Correction room borne = let f = named (borne refl) in rw (f .1) (line-corrected (f .0) (f .1) (room refl))
+      go Summary room borne = refl
+      go Other room borne = refl
 
 -- ---- a taken message: the rows
 
@@ -131,188 +166,185 @@ module _ (m : List ℕ) (used : ℕ) (r : Record) (fits : RecordFits r) where
   abbrev olds : List Row
   olds = usedRows m used
 
-  module _ (i : ℕ) (found : rowWith (r .symbol) olds ≡ At i) where
+  module _ (i : ℕ) (found : listingOf (r .symbol) (sheetIn olds) ≡ At i) where
     below-row : i < min used (rowLimit (length m))
-    below-row = omega (arith, found-below (isOf (r .symbol)) olds i found, used-rows-length m used)
+    below-row =
+        let n : length (sheetIn olds) ≡ length olds = length-map olds (λ (x : Row). x .listing) in
+        omega (arith, found-below (isOf (r .symbol)) (sheetIn olds) i found, used-rows-length m used)
 
-    row-reported : usedRows (withReport m i (r .consolidated)) used ≡ set olds i (reporting (r .consolidated) (getD olds i noRow))
+    row-reported : usedRows (withReport m i (r .consolidated)) used ≡ set olds i (keeping r (getD olds i noRow))
     row-reported = rows-report m used i (r .consolidated) (fits .consolidated) below-row
 
     -- J
-    row-summed : usedRows (withReport (withSummary m i (r .high) (r .low)) i (r .consolidated)) used
-        ≡ set olds i (reporting (r .consolidated) (summarised (r .high) (r .low) (getD olds i noRow)))
+    row-summed : usedRows (withReport (withSummary m i (r .high) (r .low)) i (r .consolidated)) used ≡ set olds i (summing r (getD olds i noRow))
     row-summed =
         let w = withSummary m i (r .high) (r .low) in
-        let same : length w ≡ length m = row-length m i 12 _ in
-        let s : usedRows w used ≡ set olds i (summarised (r .high) (r .low) (getD olds i noRow)) = rows-summary m used i (r .high) (r .low) (fits .high) (fits .low) below-row in
-        let g : getD (set olds i (summarised (r .high) (r .low) (getD olds i noRow))) i noRow ≡ summarised (r .high) (r .low) (getD olds i noRow) = getD-set-same olds i _ noRow (omega (arith, below-row, used-rows-length m used)) in
-        rows-report w used i (r .consolidated) (fits .consolidated) (rw same below-row)
-        ∙ rw (s, g, set-set)
+        let same : length w ≡ length m = row-length m i atSummary _ in
+        let new = summarised (r .high) (r .low) (getD olds i noRow) in
+        let s = rows-summary m used i (r .high) (r .low) (fits .high) (fits .low) below-row in
+        let g = getD-set-same olds i new noRow (omega (arith, below-row, used-rows-length m used)) in
+        rows-report w used i (r .consolidated) (fits .consolidated) (rw same below-row) ∙ rw (s, g, set-set)
 
-  rows-taken : (isEvent r ≡ false → listed (r .symbol) (symbolsOf olds) ≡ true)
-      → usedRows (rowsBy m r (indexOf (rowWith (r .symbol) olds))) used ≡ rowsAfter r olds
-  unfolding rowsBy rowsAfter
-  rows-taken h = go (isEvent r) refl (isSummary r) refl
+  rows-taken : (eventIn r ≡ false → isListed (r .symbol) (sheetIn olds) ≡ true)
+      → usedRows (rowsBy (kindIn r) m r (indexOf (listingOf (r .symbol) (sheetIn olds)))) used ≡ rowsFor (kindIn r) r olds
+  unfolding rowsBy rowsFor
+  rows-taken h = go (kindIn r) h
     where
-      Goal : Type 0
-      Goal = usedRows (rowsBy m r (indexOf (rowWith (r .symbol) olds))) used ≡ rowsAfter r olds
+      found : isListed (r .symbol) (sheetIn olds) ≡ true → (i : ℕ) × (listingOf (r .symbol) (sheetIn olds) ≡ At i)
+      found e = there (listingOf (r .symbol) (sheetIn olds)) e
 
-      found : isEvent r ≡ false → (i : ℕ) × (rowWith (r .symbol) olds ≡ At i)
-      found e = there (rowWith (r .symbol) olds) (listed-found (r .symbol) olds ∙ h e)
-
-      go : (s : Bool) → isEvent r ≡ s → (j : Bool) → isSummary r ≡ j → Goal
-      go true s j t = rw s
-      go false s true t = let f = found s in rw (s, f .1, t) (row-summed (f .0) (f .1))
-      go false s false t = let f = found s in rw (s, f .1, t) (row-reported (f .0) (f .1))
+      go : (k : Kind) → (isEvent k ≡ false → isListed (r .symbol) (sheetIn olds) ≡ true)
+          → usedRows (rowsBy k m r (indexOf (listingOf (r .symbol) (sheetIn olds)))) used ≡ rowsFor k r olds
+      go Event h = refl
+      go Trade h = let f = found (h refl) in rw (f .1) (row-reported (f .0) (f .1))
+      go Cancel h = let f = found (h refl) in rw (f .1) (row-reported (f .0) (f .1))
+      go Correction h = let f = found (h refl) in rw (f .1) (row-reported (f .0) (f .1))
+      go Summary h = let f = found (h refl) in rw (f .1) (row-summed (f .0) (f .1))
+      go Other h = refl
 
 -- ---- a delivery
 
-module _ (c : Counters) (rows lines : List ℕ) (n : ℕ) (m : List ℕ) (safe : sound c (length rows) (length lines) ≡ true) where
-  abbrev b : Book
-  b = bookOf c rows lines
-
+module _ (s : State) (a : Arrival) (safe : soundIn s ≡ true) where
   abbrev limit : ℕ
-  limit = lineLimit (length lines)
+  limit = lineLimit (length (s .lines))
+
+  abbrev b : Book
+  b = bookOf s
 
   abbrev r : Record
-  r = readOf m .found
-
-  abbrev Ends : Counters → List ℕ → List ℕ → Type 0
-  Ends k rs ls = (deliverSaid c rows lines n m .counters ≡ k) × (deliverRows c rows lines n m ≡ rs) × (deliverLines c rows lines n m ≡ ls)
-
-  abbrev rowThere : ℕ
-  rowThere = indexOf (rowWith (r .symbol) (usedRows rows (c .rows)))
-
-  abbrev lineThere : ℕ
-  lineThere = indexOf (lineWith (oldKey r) (usedLines lines (c .lines)))
+  r = readOf (a .message) .found
 
   -- not the wanted number; refused, the number used up; taken
-  data Outcome : Type 0 where
-    left : Ends c rows lines → next limit b n m ≡ b → Outcome
-    over : c .wanted ≤ 4294967295 → Ends (usedUp c) rows lines → next limit b n m ≡ usingUp b → Outcome
-    took : c .wanted ≤ 4294967295 → Passed (c .phase) (symbolsOf (usedRows rows (c .rows))) (usedLines lines (c .lines)) limit r
-        → Ends (moved r c) (rowsBy rows r rowThere) (linesBy lines (c .lines) (c .wanted) r lineThere)
-        → next limit b n m ≡ taking r b → Outcome
+  data Ended : Type 0 where
+    left : delivered s a .state ≡ s → next limit b a ≡ b → Ended
+    over : wantedIn s ≤ lastNumber → delivered s a .state ≡ spent s → next limit b a ≡ usingUp b → Ended
+    took : wantedIn s ≤ lastNumber → Passed (basisOf s) r → delivered s a .state ≡ Calls.taking s r → next limit b a ≡ taking r b → Ended
 
-  wanted-here : lowest (numberTable (c .wanted) n) ≡ 0 → Wanted true (c .wanted) n
-  wanted-here e = number-wanted true (c .wanted) n .0 e
+  wanted-here : given (numberTable (wantedIn s) (a .number)) .number ≡ 0 → Wanted true (wantedIn s) (a .number)
+  wanted-here e = number-wanted true (wantedIn s) (a .number) .0 e
+
+  in-book : Wanted true (wantedIn s) (a .number) → Wanted (soundIn s) (wantedIn s) (a .number)
+  in-book w = record { sound = safe; wanted = w .wanted; least = w .least; greatest = w .greatest }
 
   -- the content decides
-  pub answer-is : Wanted true (c .wanted) n → deliverAnswer c rows lines n m ≡ content limit b m
-  unfolding deliverAnswer content bookOf
-  answer-is w = rw safe (number-content true (c .wanted) n _ w)
+  pub answer-is : Wanted true (wantedIn s) (a .number) → messageGiven s a .number ≡ content limit b (a .message)
+  unfolding content bookOf
+  answer-is w = ap (λ (x : Case). x .number) (answer-content s a (in-book w))
 
-  after-is : lowest (numberTable (c .wanted) n) ≡ 0 → next limit b n m ≡ after limit b m
+  after-is : given (numberTable (wantedIn s) (a .number)) .number ≡ 0 → next limit b a ≡ after limit b (a .message)
   unfolding next bookOf
   after-is e = rw e
 
-  refused : Wanted true (c .wanted) n → (content limit b m ≡ 0 → ⊥) → Ends (usedUp c) rows lines
-  refused w z =
-      let a : deliverAnswer c rows lines n m ≡ 0 → ⊥ = λ q. z (sym (answer-is w) ∙ q) in
-      let k = refused-keeps c rows lines .deliver n m a in
-      (refused-keeps c rows lines .used n m safe (w .wanted) (w .greatest) a, k .0, k .1)
+  refused : Wanted true (wantedIn s) (a .number) → (content limit b (a .message) ≡ 0 → ⊥) → delivered s a .state ≡ spent s
+  unfolding delivered
+  refused w z = refused-keeps s .used a safe (w .wanted) (w .greatest) (λ q. z (sym (answer-is w) ∙ q))
 
-  accepted : Wanted true (c .wanted) n → content limit b m ≡ 0 → Ends (moved r c) (rowsBy rows r rowThere) (linesBy lines (c .lines) (c .wanted) r lineThere)
-  unfolding deliverSaid deliverRows deliverLines
+  accepted : Wanted true (wantedIn s) (a .number) → content limit b (a .message) ≡ 0 → delivered s a .state ≡ Calls.taking s r
+  unfolding delivered
   accepted w z =
-      let a : deliverAnswer c rows lines n m ≡ 0 = answer-is w ∙ z in
-      (rw a (taken-is r c), rw a, rw a)
+      let e : messageGiven s a .number ≡ 0 = answer-is w ∙ z in
+      rw e
 
   -- under the wanted number
-  used : (t : Bool) → eqb (content limit b m) 0 ≡ t → lowest (numberTable (c .wanted) n) ≡ 0 → Outcome
+  used : (t : Bool) → eqb (content limit b (a .message)) 0 ≡ t → given (numberTable (wantedIn s) (a .number)) .number ≡ 0 → Ended
   unfolding after content bookOf
   used true t e =
       let w = wanted-here e in
-      let z = eqb-true (content limit b m) 0 t in
-      took (omega (arith, w .wanted, w .greatest)) (passed (c .phase) _ _ limit (readOf m) z) (accepted w z) (after-is e ∙ rw t)
+      let z = eqb-true (content limit b (a .message)) 0 t in
+      took (omega (arith, w .wanted, w .greatest)) (passed (basisOf s) (readOf (a .message)) z) (accepted w z) (after-is e ∙ rw t)
   used false t e =
       let w = wanted-here e in
-      over (omega (arith, w .wanted, w .greatest)) (refused w (eqb-false (content limit b m) 0 t)) (after-is e ∙ rw t)
+      over (omega (arith, w .wanted, w .greatest)) (refused w (eqb-false (content limit b (a .message)) 0 t)) (after-is e ∙ rw t)
 
-  outcome : Outcome
+  ended : Ended
   unfolding next bookOf
-  outcome = go (eqb (lowest (numberTable (c .wanted) n)) 0) refl
+  ended = go (eqb (given (numberTable (wantedIn s) (a .number)) .number) 0) refl
     where
-      go : (t : Bool) → eqb (lowest (numberTable (c .wanted) n)) 0 ≡ t → Outcome
-      go true t = used (eqb (content limit b m) 0) refl (eqb-true (lowest (numberTable (c .wanted) n)) 0 t)
+      number : ℕ
+      number = given (numberTable (wantedIn s) (a .number)) .number
+
+      go : (t : Bool) → eqb number 0 ≡ t → Ended
+      go true t = used (eqb (content limit b (a .message)) 0) refl (eqb-true number 0 t)
       go false t =
-          let no : Wanted (sound c (length rows) (length lines)) (c .wanted) n → ⊥ = λ w. eqb-false (lowest (numberTable (c .wanted) n)) 0 t (number-wanted true (c .wanted) n .1 (rw safe at w)) in
-          let u = refused-keeps c rows lines .unused n m (λ s w f. no (record { sound = s; wanted = w; least = omega (arith, sound-gives c (length rows) (length lines) s .least, w); greatest = f })) in
-          let k = refused-keeps c rows lines .deliver n m (u .0) in
-          left (u .1, k .0, k .1) (rw t)
+          let g = sound-gives (s .counters) (length (s .rows)) (length (s .lines)) safe in
+          let no : Wanted true (wantedIn s) (a .number) → ⊥ = λ w. eqb-false number 0 t (number-wanted true (wantedIn s) (a .number) .1 w) in
+          let u = refused-keeps s .unused a (λ h w f. no (record { sound = refl; wanted = w; least = omega (arith, g .least, w); greatest = f })) in
+          left (u .1) (rw t)
 
 -- ---- the calls as steps
 
-module _ (c : Counters) (rows lines : List ℕ) (n : ℕ) (m : List ℕ) (safe : sound c (length rows) (length lines) ≡ true) where
-  book-is : (k : Counters) (rs ls : List ℕ) → Ends c rows lines n m safe k rs ls
-      → bookOf (deliverSaid c rows lines n m .counters) (deliverRows c rows lines n m) (deliverLines c rows lines n m) ≡ bookOf k rs ls
-  book-is k rs ls e = rw (e .0, e .1, e .2)
+module _ (s : State) (safe : soundIn s ≡ true) where
+  abbrev bounds : Within (s .counters) (length (s .rows)) (length (s .lines))
+  bounds = sound-gives (s .counters) (length (s .rows)) (length (s .lines)) safe
+
+  abbrev small : Small (s .counters)
+  small = small-is (s .counters) (length (s .rows)) (length (s .lines)) bounds
+
+  -- a number used up
+  spent-is : bookOf (spent s) ≡ usingUp (bookOf s)
+  unfolding bookOf usingUp
+  spent-is = rw (up-is (wantedIn s) (omega (arith, small .wanted)))
 
   -- a taken message: rows, lines and counters move together
-  took-step : Bytes lines → Bytes m → c .wanted ≤ 4294967295
-      → Passed (c .phase) (symbolsOf (usedRows rows (c .rows))) (usedLines lines (c .lines)) (lineLimit (length lines)) (readOf m .found)
-      → bookOf (moved (readOf m .found) c) (rowsBy rows (readOf m .found) (rowThere c rows lines n m safe)) (linesBy lines (c .lines) (c .wanted) (readOf m .found) (lineThere c rows lines n m safe))
-      ≡ taking (readOf m .found) (bookOf c rows lines)
+  took-step : (m : List ℕ) → Bytes (s .lines) → Bytes m → wantedIn s ≤ lastNumber → Passed (basisOf s) (readOf m .found)
+      → bookOf (Calls.taking s (readOf m .found)) ≡ taking (readOf m .found) (bookOf s)
   unfolding bookOf taking
-  took-step bl bm f p =
+  took-step m bl bm f p =
+      let r = readOf m .found in
       let fits = read-fits m bm in
-      let small : c .wanted < 2 ^ 32 = omega arith in
-      let within = sound-gives c (length rows) (length lines) safe .linesFit in
-      let l = lines-taken lines (c .lines) (c .wanted) (readOf m .found) fits small bl within (c .phase) _ p in
-      let o = rows-taken rows (c .rows) (readOf m .found) fits (p .isListed) in
-      rw (l, o)
+      let l = lines-taken (s .lines) (s .counters .lines) (wantedIn s) r fits (omega (arith, f)) bl (bounds .linesFit) (p .hasRoom) (p .isBorne) in
+      let o = rows-taken (s .rows) (s .counters .rows) r fits (p .onSheet) in
+      rw (taken-is (s .counters) small r, l, o)
 
-  pub deliver-step : Bytes lines → Bytes m
-      → bookOf (deliverSaid c rows lines n m .counters) (deliverRows c rows lines n m) (deliverLines c rows lines n m) ≡ next (lineLimit (length lines)) (bookOf c rows lines) n m
-  unfolding bookOf usingUp
-  deliver-step bl bm = go (outcome c rows lines n m safe)
+  pub deliver-step : (a : Arrival) → Bytes (s .lines) → Bytes (a .message)
+      → bookOf (delivered s a .state) ≡ next (lineLimit (length (s .lines))) (bookOf s) a
+  deliver-step a bl bm = go (ended s a safe)
     where
-      go : Outcome c rows lines n m safe
-          → bookOf (deliverSaid c rows lines n m .counters) (deliverRows c rows lines n m) (deliverLines c rows lines n m) ≡ next (lineLimit (length lines)) (bookOf c rows lines) n m
-      go (left e q) = book-is c rows lines e ∙ sym q
-      go (over f e q) = book-is (usedUp c) rows lines e ∙ sym q
-      go (took f p e q) = book-is _ _ _ e ∙ took-step bl bm f p ∙ sym q
+      go : Ended s a safe → bookOf (delivered s a .state) ≡ next (lineLimit (length (s .lines))) (bookOf s) a
+      go (left e q) = ap bookOf e ∙ sym q
+      go (over f e q) = ap bookOf e ∙ spent-is ∙ sym q
+      go (took f p e q) = ap bookOf e ∙ took-step (a .message) bl bm f p ∙ sym q
 
-module _ (c : Counters) (rows lines symbol : List ℕ) (close : ℕ) (safe : sound c (length rows) (length lines) ≡ true) where
-  abbrev cases : List Case
-  cases = listTable (c .wanted) (symbolsOf (usedRows rows (c .rows))) (rowLimit (length rows)) symbol close
+  -- ---- a listing
 
-  list-answer : listAnswer c rows lines symbol close ≡ lowest cases
-  unfolding listAnswer
-  list-answer = rw safe
+  module _ (l : Listing) where
+    abbrev cases : List Case
+    cases = listTable (wantedIn s) (sheetOf s) (rowLimit (length (s .rows))) l
 
-  -- where it is not refused, there is room
-  list-room : lowest cases ≡ 0 → c .rows < rowLimit (length rows)
-  list-room e =
-      let room = listable (c .wanted) _ _ symbol close e .hasRoom in
-      leb-false (rowLimit (length rows)) (c .rows) (sym (rows-full rows (c .rows)) ∙ lt-leb _ _ room)
+    list-answer : listAnswer s l ≡ given cases .number
+    unfolding listAnswer
+    list-answer = ap (λ (t : Bool). given (inBook t cases) .number) safe
 
-  -- the row is put behind the others
-  list-put : length symbol ≡ 8 → lowest cases ≡ 0 → usedRows (withRow rows (c .rows) symbol close) (c .rows + 1) ≡ usedRows rows (c .rows) ++ (listedRow symbol close ∷ [])
-  list-put h z =
-      let l = listable (c .wanted) _ _ symbol close z in
-      rw (add-one (c .rows)) (rows-put rows symbol (c .rows) close h (omega arith) (list-room z))
+    -- where it is not refused, there is room
+    list-room : given cases .number ≡ 0 → s .counters .rows < rowLimit (length (s .rows))
+    list-room e =
+        let room = listable (wantedIn s) _ _ l e .hasRoom in
+        leb-false (rowLimit (length (s .rows))) (s .counters .rows) (sym (rows-full (s .rows) (s .counters .rows)) ∙ lt-leb _ _ room)
 
-  pub list-step : length symbol ≡ 8
-      → bookOf (listSaid c rows lines symbol close .counters) (listRows c rows lines symbol close) lines ≡ listing (rowLimit (length rows)) (bookOf c rows lines) symbol close
-  unfolding bookOf listSaid listRows listing
-  list-step h = rw list-answer (go (eqb (lowest cases) 0) refl)
-    where
-      more : Book
-      more =
-          record {
-            wanted = c .wanted;
-            phase = c .phase;
-            rows = usedRows rows (c .rows) ++ (listedRow symbol close ∷ []);
-            lines = usedLines lines (c .lines);
-            listed = c .rows + 1;
-            used = c .lines;
-            taken = c .taken;
-          }
+    -- the row is put behind the others
+    list-put : ListingFits l → given cases .number ≡ 0
+        → usedRows (withRow (s .rows) (s .counters .rows) l) (s .counters .rows + 1) ≡ rowsIn s ++ (listedRow l ∷ [])
+    list-put h z = rw (add-one (s .counters .rows)) (rows-put (s .rows) (s .counters .rows) l h (list-room z))
 
-      go : (t : Bool) → eqb (lowest cases) 0 ≡ t → bookOf (cond t (oneRowMore c) c) (cond t (withRow rows (c .rows) symbol close) rows) lines ≡ cond t more (bookOf c rows lines)
-      go true t = rw (list-put h (eqb-true (lowest cases) 0 t))
-      go false t = refl
+    pub list-step : ListingFits l → bookOf (listed s l .state) ≡ listing (rowLimit (length (s .rows))) (bookOf s) l
+    unfolding bookOf listed listing
+    list-step h = rw list-answer (go (eqb (given cases .number) 0) refl)
+      where
+        more : Book
+        more =
+            record {
+              wanted = wantedIn s;
+              phase = s .counters .phase;
+              rows = rowsIn s ++ (listedRow l ∷ []);
+              lines = linesIn s;
+              listed = s .counters .rows + 1;
+              used = s .counters .lines;
+              taken = s .counters .taken;
+            }
+
+        go : (t : Bool) → eqb (given cases .number) 0 ≡ t → bookOf (cond t (withListing s l) s) ≡ cond t more (bookOf s)
+        go true t = rw (up-is (s .counters .rows) (omega (arith, small .rows)), list-put h (eqb-true (given cases .number) 0 t))
+        go false t = refl
 
 -- ---- a sound book stays sound
 
@@ -331,60 +363,68 @@ either-fits true a b n f g = f refl
 either-fits false a b n f g = g
 
 -- every event's phase is one of the seven
-phase-fits : (e : ℕ) → phaseOf e ≤ 6
+phase-fits : (e : ℕ) → phaseOf e ≤ lastPhase
 phase-fits e =
-    either-fits (eqb e 79) 1 _ 6 (λ t. omega arith)
-    (either-fits (eqb e 83) 2 _ 6 (λ t. omega arith)
-    (either-fits (eqb e 81) 3 _ 6 (λ t. omega arith)
-    (either-fits (eqb e 77) 4 _ 6 (λ t. omega arith)
-    (either-fits (eqb e 69) 5 _ 6 (λ t. omega arith)
-    (either-fits (eqb e 67) 6 0 6 (λ t. omega arith) (omega arith))))))
+    either-fits (eqb e 79) 1 _ lastPhase (λ t. omega arith)
+    (either-fits (eqb e 83) 2 _ lastPhase (λ t. omega arith)
+    (either-fits (eqb e 81) 3 _ lastPhase (λ t. omega arith)
+    (either-fits (eqb e 77) 4 _ lastPhase (λ t. omega arith)
+    (either-fits (eqb e 69) 5 _ lastPhase (λ t. omega arith)
+    (either-fits (eqb e 67) 6 0 lastPhase (λ t. omega arith) (omega arith))))))
 
-module _ (c : Counters) (rows lines : List ℕ) (safe : sound c (length rows) (length lines) ≡ true) where
-  abbrev bounds : Within c (length rows) (length lines)
-  bounds = sound-gives c (length rows) (length lines) safe
+module _ (s : State) (safe : soundIn s ≡ true) where
+  abbrev R : ℕ
+  R = length (s .rows)
+
+  abbrev L : ℕ
+  L = length (s .lines)
 
   -- taken: there is room for the line
-  moved-sound : (r : Record) → c .wanted ≤ 4294967295 → (makesNew r ≡ true → length (usedLines lines (c .lines)) < lineLimit (length lines))
-      → sound (moved r c) (length rows) (length lines) ≡ true
+  moved-sound : (r : Record) → wantedIn s ≤ lastNumber → (makesIn r ≡ true → length (linesIn s) < lineLimit L) → sound (moved r (s .counters)) R L ≡ true
   moved-sound r f room =
-      let w = bounds in
-      let n = used-lines-length lines (c .lines) in
-      within-sound (moved r c) (length rows) (length lines)
+      let c = s .counters in
+      let w = bounds s safe in
+      let n = used-lines-length (s .lines) (c .lines) in
+      within-sound (moved r c) R L
       (record {
         least = omega arith;
         greatest = omega arith;
         rowsFit = w .rowsFit;
-        linesFit = either-fits (makesNew r) (c .lines + 1) (c .lines) _ (λ t. omega (arith, room t)) (w .linesFit);
-        phased = either-fits (isEvent r) (phaseOf (r .event)) (c .phase) 6 (λ t. phase-fits (r .event)) (w .phased);
+        linesFit = either-fits (makesIn r) (c .lines + 1) (c .lines) _ (λ t. omega (arith, room t)) (w .linesFit);
+        phased = either-fits (eventIn r) (phaseOf (r .event)) (c .phase) lastPhase (λ t. phase-fits (r .event)) (w .phased);
         takenFit = omega arith;
       })
 
-  used-sound : c .wanted ≤ 4294967295 → sound (usedUp c) (length rows) (length lines) ≡ true
+  used-sound : wantedIn s ≤ lastNumber → sound (usedUp (s .counters)) R L ≡ true
   used-sound f =
-      let w = bounds in
-      within-sound (usedUp c) (length rows) (length lines)
-      (record { least = omega arith; greatest = omega arith; rowsFit = w .rowsFit; linesFit = w .linesFit; phased = w .phased; takenFit = omega arith })
+      let w = bounds s safe in
+      rw (used-up-is (s .counters) (small s safe))
+      (within-sound _ R L
+      (record { least = omega arith; greatest = omega arith; rowsFit = w .rowsFit; linesFit = w .linesFit; phased = w .phased; takenFit = omega arith }))
 
-  pub deliver-sound : (n : ℕ) (m : List ℕ)
-      → sound (deliverSaid c rows lines n m .counters) (length (deliverRows c rows lines n m)) (length (deliverLines c rows lines n m)) ≡ true
-  deliver-sound n m = rw (touches-only c rows lines .rowsLength n m, touches-only c rows lines .linesLength n m) (go (outcome c rows lines n m safe))
+  pub deliver-sound : (a : Arrival) → soundIn (delivered s a .state) ≡ true
+  deliver-sound a = rw (touches-only s .rowsLength a, touches-only s .linesLength a) (go (ended s a safe))
     where
-      go : Outcome c rows lines n m safe → sound (deliverSaid c rows lines n m .counters) (length rows) (length lines) ≡ true
-      go (left e q) = rw (e .0) safe
-      go (over f e q) = rw (e .0) (used-sound f)
-      go (took f p e q) = rw (e .0) (moved-sound (readOf m .found) f (p .hasRoom))
+      go : Ended s a safe → sound (delivered s a .state .counters) R L ≡ true
+      go (left e q) = ap (λ (t : State). sound (t .counters) R L) e ∙ safe
+      go (over f e q) = ap (λ (t : State). sound (t .counters) R L) e ∙ used-sound f
+      go (took f p e q) =
+          ap (λ (t : State). sound (t .counters) R L) e
+          ∙ ap (λ (c : Counters). sound c R L) (taken-is (s .counters) (small s safe) (readOf (a .message) .found))
+          ∙ moved-sound (readOf (a .message) .found) f (p .hasRoom)
 
-  pub list-sound : (symbol : List ℕ) (close : ℕ)
-      → sound (listSaid c rows lines symbol close .counters) (length (listRows c rows lines symbol close)) (length lines) ≡ true
-  unfolding listSaid
-  list-sound symbol close =
-      rw (touches-only c rows lines .listedLength symbol close, list-answer c rows lines symbol close safe) (go (eqb (lowest (cases c rows lines symbol close safe)) 0) refl)
+  pub list-sound : (l : Listing) → soundIn (listed s l .state) ≡ true
+  unfolding listed
+  list-sound l = rw (touches-only s .listedLength l, touches-only s .listedLines l) (kept l)
     where
-      go : (t : Bool) → eqb (lowest (cases c rows lines symbol close safe)) 0 ≡ t → sound (cond t (oneRowMore c) c) (length rows) (length lines) ≡ true
-      go true t =
-          let w = bounds in
-          let room = list-room c rows lines symbol close safe (eqb-true _ 0 t) in
-          within-sound (oneRowMore c) (length rows) (length lines)
-          (record { least = w .least; greatest = w .greatest; rowsFit = omega arith; linesFit = w .linesFit; phased = w .phased; takenFit = w .takenFit })
-      go false t = safe
+      go : (l : Listing) (t : Bool) → eqb (given (cases s safe l) .number) 0 ≡ t → sound (cond t (withListing s l) s .counters) R L ≡ true
+      go l true t =
+          let w = bounds s safe in
+          let room = list-room s safe l (eqb-true _ 0 t) in
+          rw (one-row-is (s .counters) (small s safe))
+          (within-sound _ R L
+          (record { least = w .least; greatest = w .greatest; rowsFit = omega arith; linesFit = w .linesFit; phased = w .phased; takenFit = w .takenFit }))
+      go l false t = safe
+
+      kept : (l : Listing) → sound (listed s l .state .counters) R L ≡ true
+      kept l = rw (list-answer s safe l) (go l (eqb (given (cases s safe l) .number) 0) refl)

@@ -6,30 +6,31 @@ use mathlib.Core.Logic.{⊎-elim}
 use mathlib.Core.Bool.{Bool, true, false, cond, not, _||_, true≢false}
 use mathlib.Core.List.{List, [], _∷_, map, List·Memᴰ, List·Memᴰ·head, List·Memᴰ·tail, List·Memᴰ·not-nil, List·Memᴰ·cases-cons}
 use native.Mathlib.Omega.{arith}
-use lib.ListN.{length, getD}
+use lib.ListN.{getD}
 use Rattle.octets.specs.Run.{same}
 use Rattle.octets.proofs.Trips.{same-is}
-use Rattle.answers.specs.Answers.{answerOf}
+use Rattle.answers.specs.Answers.{numberOf, answerOf}
+use Rattle.answers.specs.Cases.{says, done, given, inBook}
 use Rattle.answers.specs.declared.Answer.{Answer}
 use Rattle.cells.specs.declared.Found.{Found}
 use Rattle.cells.specs.declared.Found.the-variants.{Nothing, At}
 use Rattle.lines.specs.declared.Line.{Line}
+use Rattle.rows.specs.declared.Listing.{Listing}
 use Rattle.rows.specs.declared.Row.{Row}
-use Rattle.lines.specs.Lines.{usedLines}
-use Rattle.rows.specs.Rows.{usedRows, isOf, rowWith, noRow}
-use Rattle.table.specs.Table.{symbolsOf, listed}
+use Rattle.rows.specs.Rows.{sheetIn, isOf, listingOf, noRow}
 use Rattle.walk.specs.Meaning.{Are}
-use Rattle.book.specs.declared.counters.Counters.{Counters}
-use Rattle.book.specs.declared.Shown.{Shown}
 use Rattle.show.specs.declared.RowShown.{RowShown}
-use Rattle.book.specs.Counting.{sound}
 use Rattle.show.specs.Showing.{shownOf, nothingShown}
-use Rattle.book.specs.Calls.{rowAnswer, rowShown}
-use Rattle.book.proofs.Demand1.{refused-keeps, RowReads, row-reads}
-use Rattle.clerk.specs.Clerk.{Listing, symbolsIn, Taken, tradesOf, rowOf, shownBy}
+use Rattle.table.specs.Table.{isListed}
+use Rattle.book.specs.declared.Shown.{Shown}
+use Rattle.book.specs.State.{State, rowsIn, sheetOf, linesIn, soundIn}
+use Rattle.book.specs.Calls.{rowTable, rowAnswer, shown}
+use Rattle.book.proofs.Demand1.{refused-keeps, row-told}
+use Rattle.book.proofs.Touches.{RowReads, row-reads}
+use Rattle.clerk.specs.Clerk.{isIn, symbolsIn, Taken, tradesOf, rowOf, shownBy}
 use Rattle.clerk.specs.Claims.{NoRepeat}
-use Rattle.clerk.proofs.Lines.{or-false-left, or-false-right, same-refl, same-comm, up, first-hit, first-miss}
-use Rattle.clerk.proofs.Sim.{symbols-are}
+use Rattle.clerk.proofs.Lines.{or-false-left, or-false-right, same-refl, same-comm, up, first-hit, first-miss, listed-is-in}
+use Rattle.clerk.proofs.Sim.{sheet-is}
 use Rattle.clerk.proofs.Once.{clerk-figures-one}
 
 -- the row that was found
@@ -44,34 +45,33 @@ found-up w ws (At i) = refl
 -- ---- a listed symbol
 
 -- a symbol that differs from each of a sheet's differs from that of each listing on it
-other-symbol : (k : List ℕ) (sheet : List Listing) (l : Listing) → listed k (symbolsIn sheet) ≡ false → List·Memᴰ l sheet → same (l .symbol) k ≡ false
+other-symbol : (k : List ℕ) (sheet : List Listing) (l : Listing) → isIn k (symbolsIn sheet) ≡ false → List·Memᴰ l sheet → same (l .symbol) k ≡ false
 other-symbol k [] l h m = absurd (List·Memᴰ·not-nil m)
 other-symbol k (x ∷ sheet) l h m =
     ⊎-elim (λ (q : l ≡ x). ap (λ (y : Listing). same (y .symbol) k) q ∙ or-false-left (same (x .symbol) k) _ h)
     (λ (t : List·Memᴰ l sheet). other-symbol k sheet l (or-false-right (same (x .symbol) k) _ h) t)
     (List·Memᴰ·cases-cons m)
 
-pub on-sheet : (sheet : List Listing) (l : Listing) → List·Memᴰ l sheet → listed (l .symbol) (symbolsIn sheet) ≡ true
-on-sheet sheet l m = go (listed (l .symbol) (symbolsIn sheet)) refl
+pub on-sheet : (sheet : List Listing) (l : Listing) → List·Memᴰ l sheet → isIn (l .symbol) (symbolsIn sheet) ≡ true
+on-sheet sheet l m = go (isIn (l .symbol) (symbolsIn sheet)) refl
   where
-    go : (t : Bool) → listed (l .symbol) (symbolsIn sheet) ≡ t → listed (l .symbol) (symbolsIn sheet) ≡ true
+    go : (t : Bool) → isIn (l .symbol) (symbolsIn sheet) ≡ t → isIn (l .symbol) (symbolsIn sheet) ≡ true
     go true t = t
     go false t = absurd (true≢false (sym (same-refl (l .symbol)) ∙ other-symbol (l .symbol) sheet l t m))
 
 -- and a symbol that is listed is that of a listing
-pub of-sheet : (symbol : List ℕ) (sheet : List Listing) → listed symbol (symbolsIn sheet) ≡ true → (x : Listing) × List·Memᴰ x sheet × (symbol ≡ x .symbol)
+pub of-sheet : (symbol : List ℕ) (sheet : List Listing) → isIn symbol (symbolsIn sheet) ≡ true → (x : Listing) × List·Memᴰ x sheet × (symbol ≡ x .symbol)
 of-sheet symbol [] h = absurd (true≢false (sym h))
 of-sheet symbol (x ∷ sheet) h = go (same (x .symbol) symbol) refl h (λ q. of-sheet symbol sheet q)
   where
-    go : (t : Bool) → same (x .symbol) symbol ≡ t → (t || listed symbol (symbolsIn sheet)) ≡ true
-        → (listed symbol (symbolsIn sheet) ≡ true → (y : Listing) × List·Memᴰ y sheet × (symbol ≡ y .symbol)) → (y : Listing) × List·Memᴰ y (x ∷ sheet) × (symbol ≡ y .symbol)
+    go : (t : Bool) → same (x .symbol) symbol ≡ t → (t || isIn symbol (symbolsIn sheet)) ≡ true
+        → (isIn symbol (symbolsIn sheet) ≡ true → (y : Listing) × List·Memᴰ y sheet × (symbol ≡ y .symbol)) → (y : Listing) × List·Memᴰ y (x ∷ sheet) × (symbol ≡ y .symbol)
     go true t h f = (x, List·Memᴰ·head refl, sym (same-is (x .symbol) symbol .0 t))
     go false t h f = let q = f h in (q .0, List·Memᴰ·tail (q .1), q .2)
 
 -- the first row of a listed symbol is its own
 found-row : (es : List Taken) (sheet : List Listing) (l : Listing) → NoRepeat (symbolsIn sheet) → List·Memᴰ l sheet
-    → rowFound (map (rowOf es) sheet) (rowWith (l .symbol) (map (rowOf es) sheet)) ≡ rowOf es l
-unfolding rowOf
+    → rowFound (map (rowOf es) sheet) (listingOf (l .symbol) sheet) ≡ rowOf es l
 found-row es [] l d m = absurd (List·Memᴰ·not-nil m)
 found-row es (x ∷ sheet) l d m =
     ⊎-elim (λ (q : l ≡ x). here q)
@@ -81,50 +81,60 @@ found-row es (x ∷ sheet) l d m =
     ws : List Row
     ws = map (rowOf es) sheet
 
-    here : l ≡ x → rowFound (rowOf es x ∷ ws) (rowWith (l .symbol) (rowOf es x ∷ ws)) ≡ rowOf es l
+    here : l ≡ x → rowFound (rowOf es x ∷ ws) (listingOf (l .symbol) (x ∷ sheet)) ≡ rowOf es l
     here q =
         let e : same (x .symbol) (l .symbol) ≡ true = ap (λ (y : Listing). same (y .symbol) (l .symbol)) (sym q) ∙ same-refl (l .symbol) in
-        ap (rowFound (rowOf es x ∷ ws)) (first-hit (isOf (l .symbol)) (rowOf es x) ws e) ∙ ap (rowOf es) (sym q)
+        ap (rowFound (rowOf es x ∷ ws)) (first-hit (isOf (l .symbol)) x sheet e) ∙ ap (rowOf es) (sym q)
 
-    there : List·Memᴰ l sheet → rowFound ws (rowWith (l .symbol) ws) ≡ rowOf es l → rowFound (rowOf es x ∷ ws) (rowWith (l .symbol) (rowOf es x ∷ ws)) ≡ rowOf es l
+    there : List·Memᴰ l sheet → rowFound ws (listingOf (l .symbol) sheet) ≡ rowOf es l
+        → rowFound (rowOf es x ∷ ws) (listingOf (l .symbol) (x ∷ sheet)) ≡ rowOf es l
     there t i =
         let e : same (x .symbol) (l .symbol) ≡ false = same-comm (x .symbol) (l .symbol) ∙ other-symbol (x .symbol) sheet l (d .0) t in
-        ap (rowFound (rowOf es x ∷ ws)) (first-miss (isOf (l .symbol)) (rowOf es x) ws e) ∙ found-up (rowOf es x) ws (rowWith (l .symbol) ws) ∙ i
+        ap (rowFound (rowOf es x ∷ ws)) (first-miss (isOf (l .symbol)) x sheet e) ∙ found-up (rowOf es x) ws (listingOf (l .symbol) sheet) ∙ i
 
 -- ---- what is told
 
 shown-is : (s : Shown) (a : Answer) (w : RowShown) → s .answer ≡ a → s .row ≡ w → s ≡ record { answer = a; row = w }
 shown-is s a w e f = sym (rw (← e, ← f))
 
-module _ (c : Counters) (rows lines : List ℕ) (safe : sound c (length rows) (length lines) ≡ true) (sheet : List Listing) (es : List Taken)
-    (theRows : usedRows rows (c .rows) ≡ map (rowOf es) sheet) (theLines : usedLines lines (c .lines) ≡ tradesOf es) where
-  answer-is : (symbol : List ℕ) (t : Bool) → listed symbol (symbolsIn sheet) ≡ t → rowAnswer c rows lines symbol ≡ cond t 0 7
+module _ (s : State) (safe : soundIn s ≡ true) (sheet : List Listing) (es : List Taken)
+    (theRows : rowsIn s ≡ map (rowOf es) sheet) (theLines : linesIn s ≡ tradesOf es) where
+  the-sheet : sheetOf s ≡ sheet
+  the-sheet = ap sheetIn theRows ∙ sheet-is es sheet
+
+  answer-is : (symbol : List ℕ) (t : Bool) → isIn symbol (symbolsIn sheet) ≡ t → rowAnswer s symbol ≡ cond t 0 7
   unfolding rowAnswer
   answer-is symbol t e =
-      let q : listed symbol (symbolsOf (usedRows rows (c .rows))) ≡ t = ap (λ (ws : List Row). listed symbol (symbolsOf ws)) theRows ∙ ap (listed symbol) (symbols-are es sheet) ∙ e in
-      rw (safe, q) (go t)
+      let q : isListed symbol (sheetOf s) ≡ t = ap (isListed symbol) the-sheet ∙ listed-is-in symbol sheet ∙ e in
+      ap (λ (b : Bool). given (inBook b (rowTable (sheetOf s) symbol)) .number) safe ∙ go (isListed symbol (sheetOf s)) t q
     where
-      go : (t : Bool) → cond {A = ℕ} (not t) 7 0 ≡ cond t 0 7
-      go true = refl
-      go false = refl
+      go : (u t : Bool) → u ≡ t → cond (not u) (says 7 (not u)) done .number ≡ cond t 0 7
+      go true true q = refl
+      go true false q = absurd (true≢false q)
+      go false true q = absurd (true≢false (sym q))
+      go false false q = refl
 
-  pub row-shown : NoRepeat (symbolsIn sheet) → (l : Listing) → List·Memᴰ l sheet → rowShown c rows lines (l .symbol) ≡ record { answer = answerOf 0; row = shownBy es l }
-  unfolding rowShown
+  pub row-shown : NoRepeat (symbolsIn sheet) → (l : Listing) → List·Memᴰ l sheet → shown s (l .symbol) ≡ record { answer = answerOf 0; row = shownBy es l }
+  unfolding shown
   row-shown d l m =
-      let z : rowAnswer c rows lines (l .symbol) ≡ 0 = answer-is (l .symbol) true (on-sheet sheet l m) in
-      let q = row-reads c rows lines (l .symbol) z in
-      shown-is (rowShown c rows lines (l .symbol)) (answerOf 0) (shownBy es l) (ap answerOf z) (q .shown ∙ same-row q)
+      let z : rowAnswer s (l .symbol) ≡ 0 = answer-is (l .symbol) true (on-sheet sheet l m) in
+      let q = row-reads s (l .symbol) z in
+      shown-is (shown s (l .symbol)) (answerOf 0) (shownBy es l) (ap answerOf z) (q .reads ∙ same-row q)
     where
-      same-row : (q : RowReads c rows lines (l .symbol)) → shownOf (q .row) (q .figures) ≡ shownBy es l
+      same-row : (q : RowReads s (l .symbol)) → shownOf (q .row) (q .figures) ≡ shownBy es l
       same-row q =
-          let ws = usedRows rows (c .rows) in
           let w : q .row ≡ rowOf es l
-          = q .first .2 ∙ ap (rowFound ws) (sym (q .first .1)) ∙ ap (λ (x : List Row). rowFound x (rowWith (l .symbol) x)) theRows ∙ found-row es sheet l d m in
+          = q .first .2
+          ∙ ap (rowFound (rowsIn s)) (sym (q .first .1))
+          ∙ ap (λ (x : List Listing). rowFound (rowsIn s) (listingOf (l .symbol) x)) the-sheet
+          ∙ ap (λ (x : List Row). rowFound x (listingOf (l .symbol) sheet)) theRows
+          ∙ found-row es sheet l d m in
           let a : Are (l .symbol) (tradesOf es) (q .figures) = subst (λ (x : List Line). Are (l .symbol) x (q .figures)) theLines (q .mean) in
           ap (λ (x : Row). shownOf x (q .figures)) w ∙ sym (clerk-figures-one es l (q .figures) a)
 
-  pub row-missing : (symbol : List ℕ) → listed symbol (symbolsIn sheet) ≡ false → rowShown c rows lines symbol ≡ record { answer = answerOf 7; row = nothingShown }
-  unfolding rowShown
+  pub row-missing : (symbol : List ℕ) → isIn symbol (symbolsIn sheet) ≡ false → shown s symbol ≡ record { answer = answerOf 7; row = nothingShown }
+  unfolding shown
   row-missing symbol h =
-      let z : rowAnswer c rows lines symbol ≡ 7 = answer-is symbol false h in
-      shown-is (rowShown c rows lines symbol) (answerOf 7) nothingShown (ap answerOf z) (refused-keeps c rows lines .row symbol (λ e. omega (arith, e, z)))
+      let z : rowAnswer s symbol ≡ 7 = answer-is symbol false h in
+      let k : numberOf (shown s symbol .answer) ≡ 7 = row-told s symbol ∙ z in
+      shown-is (shown s symbol) (answerOf 7) nothingShown (ap answerOf z) (refused-keeps s .row symbol (λ e. omega (arith, e, k)))

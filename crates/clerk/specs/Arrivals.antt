@@ -3,6 +3,7 @@
 use Prim.Native.Nat.{ℕ, zero, suc, _≤_}
 use mathlib.Core.Path.{_≡_}
 use mathlib.Core.List.{List, [], _∷_, map, Sublistᴰ}
+use Rattle.book.specs.State.{Arrival}
 use Rattle.clerk.specs.Steps.{Book, after, next}
 
 -- the n numbers from a on
@@ -14,10 +15,6 @@ run a (suc n) = a ∷ run (suc a) n
 pub record Largest (ks : List ℕ) (n : ℕ) : Type 0 where
   pub occurs : Sublistᴰ (run 1 n) ks
   pub most : (m : ℕ) → Sublistᴰ (run 1 m) ks → m ≤ n
-
-pub record Arrival : Type 0 where
-  pub number : ℕ
-  pub message : List ℕ
 
 abbrev pub numbers : List Arrival → List ℕ
 numbers l = map (λ (a : Arrival). a .number) l
@@ -40,4 +37,4 @@ play limit b (m ∷ ms) = after limit (play limit b ms) m
 -- each arrival delivered as it comes
 unfoldable pub deliverEach : ℕ → Book → List Arrival → Book
 deliverEach limit b [] = b
-deliverEach limit b (a ∷ l) = deliverEach limit (next limit b (a .number) (a .message)) l
+deliverEach limit b (a ∷ l) = deliverEach limit (next limit b a) l

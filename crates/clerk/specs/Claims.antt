@@ -8,15 +8,15 @@ use mathlib.Core.Bool.{true, false}
 use Rattle.answers.specs.Answers.{answerOf}
 use Rattle.answers.specs.declared.Answer.{Answer}
 use Rattle.lines.specs.declared.Line.{Line}
-use Rattle.keys.specs.Messages.{makesNew, newKey}
-use Rattle.table.specs.Table.{listed}
-use Rattle.clerk.specs.Clerk.{Listing, Taken, names, originOf, trade, answerTo, takenOf}
+use Rattle.rows.specs.declared.Listing.{Listing}
+use Rattle.clerk.specs.Messages.{makesIn, keyIn}
+use Rattle.clerk.specs.Clerk.{isIn, Taken, names, originOf, trade, answerTo, takenOf}
 use Rattle.clerk.specs.Arrivals.{upto}
 
 -- no text stands in the list twice
 abbrev pub NoRepeat : List (List ℕ) → Type 0
 NoRepeat [] = Unit {0}
-NoRepeat (k ∷ ks) = (listed k ks ≡ false) × NoRepeat ks
+NoRepeat (k ∷ ks) = (isIn k ks ≡ false) × NoRepeat ks
 
 abbrev pub keysOf : List Line → List (List ℕ)
 keysOf ls = map (λ (l : Line). l .key) ls
@@ -32,9 +32,9 @@ pub record MadeLive (es : List Taken) (l : Line) : Type 0 where
   pub maker : Taken
   pub earlier : List Taken
   pub whole : es ≡ later ++ (maker ∷ earlier)
-  pub makes : makesNew (maker .message) ≡ true
-  pub line : l ≡ trade maker (originOf (maker ∷ earlier) (newKey (maker .message))) []
-  pub unnamed : listed (newKey (maker .message)) (namedIn later) ≡ false
+  pub makes : makesIn (maker .message) ≡ true
+  pub line : l ≡ trade maker (originOf (maker ∷ earlier) (keyIn (maker .message))) []
+  pub unnamed : isIn (keyIn (maker .message)) (namedIn later) ≡ false
 
 -- a message that used up its number, and what was said back
 pub record Used : Type 0 where

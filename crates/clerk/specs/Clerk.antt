@@ -3,30 +3,36 @@
 -- Assumes nothing.
 use Prim.Native.Nat.{ℕ, suc}
 use mathlib.Core.List.{List, [], _∷_, _++_, map}
-use mathlib.Core.Bool.{cond, not, _&&_}
+use mathlib.Core.Bool.{Bool, false, cond, not, _&&_, _||_}
 use lib.Dec.{eqb}
 use lib.ListN.{length}
 use Rattle.octets.specs.Run.{same}
 use Rattle.message.specs.Reading.{readOf}
 use Rattle.records.specs.declared.Record.{Record}
 use Rattle.lines.specs.declared.Line.{Line}
+use Rattle.rows.specs.declared.Listing.{Listing}
 use Rattle.rows.specs.declared.Row.{Row}
 use Rattle.rows.specs.declared.Summary.{Summary}
 use Rattle.rows.specs.declared.Summary.the-variants.{NoSummary, HighLow}
 use Rattle.rows.specs.declared.Reported.{Reported}
 use Rattle.rows.specs.declared.Reported.the-variants.{NotSet, Volume}
 use Rattle.walk.specs.Figures.{figuresOf}
-use Rattle.keys.specs.Messages.{isEvent, isCorrection, isSummary, namesOld, makesNew, phaseOf, oldKey, newKey, newSale}
-use Rattle.table.specs.Table.{lowest, listed, contentTable, listTable}
+use Rattle.counters.specs.Phases.{phaseOf}
+use Rattle.keys.specs.Keys.{oldKey}
+use Rattle.table.specs.Table.{Basis, searched, contentTable}
+use Rattle.book.specs.Calls.{listTable}
 use Rattle.show.specs.declared.RowShown.{RowShown}
 use Rattle.show.specs.Showing.{shownOf}
+use Rattle.answers.specs.Cases.{given}
+use Rattle.clerk.specs.Messages.{eventIn, correctionIn, summaryIn, setsIn, namesIn, makesIn, saleIn, keyIn}
 use Rattle.clerk.specs.Steps.{Book}
 
 -- ---- the sheet
 
-pub record Listing : Type 0 where
-  pub symbol : List ℕ
-  pub close : ℕ
+-- a text is one of a list
+abbrev pub isIn : List ℕ → List (List ℕ) → Bool
+isIn x [] = false
+isIn x (y ∷ ys) = same y x || isIn x ys
 
 abbrev pub symbolsIn : List Listing → List (List ℕ)
 symbolsIn sheet = map (λ (l : Listing). l .symbol) sheet
@@ -36,7 +42,7 @@ symbolsIn sheet = map (λ (l : Listing). l .symbol) sheet
 unfoldable pub sheetFrom : ℕ → List Listing → List Listing → List Listing
 sheetFrom limit sheet [] = sheet
 sheetFrom limit sheet (l ∷ ls) =
-    sheetFrom limit (cond (eqb (lowest (listTable 1 (symbolsIn sheet) limit (l .symbol) (l .close))) 0) (sheet ++ (l ∷ [])) sheet) ls
+    sheetFrom limit (cond (eqb (given (listTable 1 sheet limit l) .number) 0) (sheet ++ (l ∷ [])) sheet) ls
 
 abbrev pub sheetOf : ℕ → List Listing → List Listing
 sheetOf limit ls = sheetFrom limit [] ls
@@ -50,7 +56,7 @@ pub record Taken : Type 0 where
 -- the last event taken
 unfoldable pub phaseAfter : List Taken → ℕ
 phaseAfter [] = 0
-phaseAfter (e ∷ es) = cond (isEvent (e .message)) (phaseOf (e .message .event)) (phaseAfter es)
+phaseAfter (e ∷ es) = cond (eventIn (e .message)) (phaseOf (e .message .event)) (phaseAfter es)
 
 -- the place and time of a trade
 pub record Origin : Type 0 where
@@ -61,13 +67,13 @@ pub record Origin : Type 0 where
 unfoldable pub originOf : List Taken → List ℕ → Origin
 originOf [] key = record { place = 0; time = 0 }
 originOf (e ∷ es) key =
-    cond (makesNew (e .message) && same (newKey (e .message)) key)
-    (cond (isCorrection (e .message)) (originOf es (oldKey (e .message))) (record { place = e .number; time = e .message .time }))
+    cond (makesIn (e .message) && same (keyIn (e .message)) key)
+    (cond (correctionIn (e .message)) (originOf es (oldKey (e .message))) (record { place = e .number; time = e .message .time }))
     (originOf es key)
 
 -- the key that an X or a C names
 abbrev pub names : Record → List (List ℕ)
-names r = cond (namesOld r) (oldKey r ∷ []) []
+names r = cond (namesIn r) (oldKey r ∷ []) []
 
 -- ---- the trades
 
@@ -75,18 +81,18 @@ names r = cond (namesOld r) (oldKey r ∷ []) []
 abbrev pub trade : Taken → Origin → List (List ℕ) → Line
 trade e o later =
     record {
-      key = newKey (e .message);
+      key = keyIn (e .message);
       symbol = e .message .symbol;
-      price = newSale (e .message) .price;
-      size = newSale (e .message) .size;
-      condition = newSale (e .message) .condition;
+      price = saleIn (e .message) .price;
+      size = saleIn (e .message) .size;
+      condition = saleIn (e .message) .condition;
       place = o .place;
       time = o .time;
-      live = not (listed (newKey (e .message)) later);
+      live = not (isIn (keyIn (e .message)) later);
     }
 
 abbrev pub made : Taken → List Taken → List (List ℕ) → List Line
-made e es later = cond (makesNew (e .message)) (trade e (originOf (e ∷ es) (newKey (e .message))) later ∷ []) []
+made e es later = cond (makesIn (e .message)) (trade e (originOf (e ∷ es) (keyIn (e .message))) later ∷ []) []
 
 -- the trades of these taken messages, the oldest first, where the keys `later` were named after all of them
 unfoldable pub tradesBut : List (List ℕ) → List Taken → List Line
@@ -101,8 +107,11 @@ tradesOf es = tradesBut [] es
 
 -- what the table gives for a message, worked from the sheet, the room and the taken messages before it; `limit` is how many lines the
 -- room has
+abbrev pub basisAfter : List Listing → ℕ → List Taken → Basis
+basisAfter sheet limit es = record { phase = phaseAfter es; sheet = sheet; ledger = searched (tradesOf es) limit }
+
 abbrev pub answerTo : List Listing → ℕ → List Taken → List ℕ → ℕ
-answerTo sheet limit es m = lowest (contentTable (phaseAfter es) (symbolsIn sheet) (tradesOf es) limit (readOf m))
+answerTo sheet limit es m = given (contentTable (basisAfter sheet limit es) (readOf m)) .number
 
 -- a message is taken if that is 0; `limit` is of lines here too
 unfoldable pub takenOf : List Listing → ℕ → List (List ℕ) → List Taken
@@ -117,16 +126,16 @@ takenOf sheet limit (m ∷ ms) =
 unfoldable pub summaryOf : List Taken → List ℕ → Summary
 summaryOf [] symbol = NoSummary
 summaryOf (e ∷ es) symbol =
-    cond (isSummary (e .message) && same symbol (e .message .symbol)) (HighLow (e .message .high) (e .message .low)) (summaryOf es symbol)
+    cond (summaryIn (e .message) && same symbol (e .message .symbol)) (HighLow (e .message .high) (e .message .low)) (summaryOf es symbol)
 
 -- the latest consolidated volume of a symbol
 unfoldable pub reportedOf : List Taken → List ℕ → Reported
 reportedOf [] symbol = NotSet
 reportedOf (e ∷ es) symbol =
-    cond (not (isEvent (e .message)) && same symbol (e .message .symbol)) (Volume (e .message .consolidated)) (reportedOf es symbol)
+    cond (setsIn (e .message) && same symbol (e .message .symbol)) (Volume (e .message .consolidated)) (reportedOf es symbol)
 
 unfoldable pub rowOf : List Taken → Listing → Row
-rowOf es l = record { symbol = l .symbol; close = l .close; summary = summaryOf es (l .symbol); reported = reportedOf es (l .symbol) }
+rowOf es l = record { listing = l; summary = summaryOf es (l .symbol); reported = reportedOf es (l .symbol) }
 
 -- what he shows of a listed symbol
 unfoldable pub shownBy : List Taken → Listing → RowShown

@@ -1,3 +1,4 @@
+pub mod Messages
 pub mod Steps
 pub mod Clerk
 pub mod Arrivals

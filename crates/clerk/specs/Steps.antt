@@ -1,24 +1,31 @@
--- The book as lists, and what one call does to it. `bookOf` is what counters and lent bytes come to.
+-- The book as lists, and what one call does to it. `bookOf` is what a state comes to.
 -- Assumes nothing.
 use Prim.Native.Nat.{ℕ, _+_}
 use mathlib.Core.List.{List, [], _∷_, _++_}
 use mathlib.Core.Bool.{cond}
 use lib.Dec.{eqb}
 use lib.ListN.{getD, set}
+use Rattle.answers.specs.Cases.{given}
 use Rattle.message.specs.Reading.{readOf}
 use Rattle.records.specs.declared.Record.{Record}
 use Rattle.cells.specs.declared.Found.{Found}
 use Rattle.cells.specs.declared.Found.the-variants.{Nothing, At}
+use Rattle.kinds.specs.declared.Kind.{Kind}
+use Rattle.kinds.specs.declared.Kind.the-variants.{Event, Trade, Cancel, Correction, Summary, Other}
 use Rattle.lines.specs.declared.Line.{Line}
-use Rattle.rows.specs.declared.Row.{Row}
-use Rattle.lines.specs.Lines.{lineWith, noLine, usedLines}
-use Rattle.rows.specs.Rows.{rowWith, noRow, usedRows}
+use Rattle.lines.specs.Lines.{lineWith, noLine}
 use Rattle.lines.specs.Changed.{dead}
+use Rattle.rows.specs.declared.Listing.{Listing}
+use Rattle.rows.specs.declared.Row.{Row}
+use Rattle.rows.specs.Rows.{noRow, sheetIn, listingOf}
 use Rattle.rows.specs.Changed.{listedRow, reporting, summarised}
-use Rattle.keys.specs.Messages.{isEvent, isTrade, isCancel, isCorrection, isSummary, makesNew, phaseOf, oldKey}
-use Rattle.table.specs.Table.{lowest, symbolsOf, numberTable, contentTable, listTable}
+use Rattle.counters.specs.Phases.{phaseOf}
+use Rattle.keys.specs.Keys.{kindIn, oldKey}
+use Rattle.table.specs.Table.{Basis, searched, numberTable, contentTable}
 use Rattle.take.specs.Taking.{madeLine, correctedLine}
-use Rattle.book.specs.declared.counters.Counters.{Counters}
+use Rattle.book.specs.State.{State, Arrival, rowsIn, linesIn}
+use Rattle.book.specs.Calls.{listTable}
+use Rattle.clerk.specs.Messages.{eventIn, makesIn}
 
 -- rows and used lines in the order added, the wanted number, the phase, and the counts: rows used, lines used, messages taken
 pub record Book : Type 0 where
@@ -30,16 +37,16 @@ pub record Book : Type 0 where
   pub used : ℕ
   pub taken : ℕ
 
-unfoldable pub bookOf : Counters → List ℕ → List ℕ → Book
-bookOf c rows lines =
+unfoldable pub bookOf : State → Book
+bookOf s =
     record {
-      wanted = c .wanted;
-      phase = c .phase;
-      rows = usedRows rows (c .rows);
-      lines = usedLines lines (c .lines);
-      listed = c .rows;
-      used = c .lines;
-      taken = c .taken;
+      wanted = s .counters .wanted;
+      phase = s .counters .phase;
+      rows = rowsIn s;
+      lines = linesIn s;
+      listed = s .counters .rows;
+      used = s .counters .lines;
+      taken = s .counters .taken;
     }
 
 -- ---- what a taken message does
@@ -53,31 +60,51 @@ abbrev pub killFound : List Line → Found → List Line
 killFound ls Nothing = ls
 killFound ls (At i) = set ls i (dead (getD ls i noLine))
 
-unfoldable pub linesAfter : ℕ → Record → List Line → List Line
-linesAfter n r ls =
-    cond (isTrade r) (ls ++ (madeLine n r ∷ []))
-    (cond (isCancel r) (killFound ls (lineWith (oldKey r) ls))
-    (cond (isCorrection r) (killFound ls (lineWith (oldKey r) ls) ++ (correctedLine (lineFound ls (lineWith (oldKey r) ls)) r ∷ [])) ls))
+-- the lines after message n of a type
+unfoldable pub linesFor : Kind → ℕ → Record → List Line → List Line
+linesFor Event n r ls = ls
+linesFor Trade n r ls = ls ++ (madeLine n r ∷ [])
+linesFor Cancel n r ls = killFound ls (lineWith (oldKey r) ls)
+linesFor Correction n r ls =
+    killFound ls (lineWith (oldKey r) ls) ++ (correctedLine (lineFound ls (lineWith (oldKey r) ls)) r ∷ [])
+linesFor Summary n r ls = ls
+linesFor Other n r ls = ls
 
-abbrev pub kept : Record → Row → Row
-kept r w = cond (isSummary r) (reporting (r .consolidated) (summarised (r .high) (r .low) w)) (reporting (r .consolidated) w)
+-- what T, X, C and J leave in the row of their symbol
+abbrev pub keeping : Record → Row → Row
+keeping r w = reporting (r .consolidated) w
 
-abbrev pub keepFound : Record → List Row → Found → List Row
-keepFound r rs Nothing = rs
-keepFound r rs (At i) = set rs i (kept r (getD rs i noRow))
+-- and J besides
+abbrev pub summing : Record → Row → Row
+summing r w = keeping r (summarised (r .high) (r .low) w)
 
-unfoldable pub rowsAfter : Record → List Row → List Row
-rowsAfter r rs = cond (isEvent r) rs (keepFound r rs (rowWith (r .symbol) rs))
+-- the row that was found changed
+abbrev pub rowFound : (Row → Row) → List Row → Found → List Row
+rowFound change rs Nothing = rs
+rowFound change rs (At i) = set rs i (change (getD rs i noRow))
+
+-- the first row of the message's symbol changed
+abbrev pub inItsRow : (Row → Row) → Record → List Row → List Row
+inItsRow change r rs = rowFound change rs (listingOf (r .symbol) (sheetIn rs))
+
+-- the rows after a message of a type
+unfoldable pub rowsFor : Kind → Record → List Row → List Row
+rowsFor Event r rs = rs
+rowsFor Trade r rs = inItsRow (keeping r) r rs
+rowsFor Cancel r rs = inItsRow (keeping r) r rs
+rowsFor Correction r rs = inItsRow (keeping r) r rs
+rowsFor Summary r rs = inItsRow (summing r) r rs
+rowsFor Other r rs = rs
 
 unfoldable pub taking : Record → Book → Book
 taking r b =
     record {
       wanted = b .wanted + 1;
-      phase = cond (isEvent r) (phaseOf (r .event)) (b .phase);
-      rows = rowsAfter r (b .rows);
-      lines = linesAfter (b .wanted) r (b .lines);
+      phase = cond (eventIn r) (phaseOf (r .event)) (b .phase);
+      rows = rowsFor (kindIn r) r (b .rows);
+      lines = linesFor (kindIn r) (b .wanted) r (b .lines);
       listed = b .listed;
-      used = cond (makesNew r) (b .used + 1) (b .used);
+      used = cond (makesIn r) (b .used + 1) (b .used);
       taken = b .taken + 1;
     }
 
@@ -96,26 +123,33 @@ usingUp b =
       taken = b .taken;
     }
 
+-- what the table is worked from; `limit` is how many lines the room has
+abbrev pub basisBy : ℕ → Book → Basis
+basisBy limit b = record { phase = b .phase; sheet = sheetIn (b .rows); ledger = searched (b .lines) limit }
+
 -- 4 to 12 or 0
 unfoldable pub content : ℕ → Book → List ℕ → ℕ
-content limit b m = lowest (contentTable (b .phase) (symbolsOf (b .rows)) (b .lines) limit (readOf m))
+content limit b m = given (contentTable (basisBy limit b) (readOf m)) .number
 
 -- the wanted message: taken, or its number used up
 unfoldable pub after : ℕ → Book → List ℕ → Book
 after limit b m = cond (eqb (content limit b m) 0) (taking (readOf m .found) b) (usingUp b)
 
--- a message under any number; `limit` is how many lines the room has
-unfoldable pub next : ℕ → Book → ℕ → List ℕ → Book
-next limit b n m = cond (eqb (lowest (numberTable (b .wanted) n)) 0) (after limit b m) b
+-- a message under any number
+unfoldable pub next : ℕ → Book → Arrival → Book
+next limit b a = cond (eqb (given (numberTable (b .wanted) (a .number)) .number) 0) (after limit b (a .message)) b
 
--- a listing; `limit` is how many rows the room has
-unfoldable pub listing : ℕ → Book → List ℕ → ℕ → Book
-listing limit b symbol close =
-    cond (eqb (lowest (listTable (b .wanted) (symbolsOf (b .rows)) limit symbol close)) 0)
+-- the answer to a listing; `limit` is how many rows the room has
+abbrev pub listAnswerBy : ℕ → Book → Listing → ℕ
+listAnswerBy limit b l = given (listTable (b .wanted) (sheetIn (b .rows)) limit l) .number
+
+unfoldable pub listing : ℕ → Book → Listing → Book
+listing limit b l =
+    cond (eqb (listAnswerBy limit b l) 0)
     (record {
       wanted = b .wanted;
       phase = b .phase;
-      rows = b .rows ++ (listedRow symbol close ∷ []);
+      rows = b .rows ++ (listedRow l ∷ []);
       lines = b .lines;
       listed = b .listed + 1;
       used = b .used;

@@ -69,3 +69,12 @@ makesNew Cancel = false
 makesNew Correction = true
 makesNew Summary = false
 makesNew Other = false
+
+-- T, X, C and J set the reported consolidated volume of their symbol's row
+abbrev pub setsVolume : Kind → Bool
+setsVolume Event = false
+setsVolume Trade = true
+setsVolume Cancel = true
+setsVolume Correction = true
+setsVolume Summary = true
+setsVolume Other = false
