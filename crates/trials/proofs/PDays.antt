@@ -5,4 +5,115 @@ use Rattle.trials.specs.Days.{AsSaid, days, figuresFor, clerkShows}
 
 pub p-days : AsSaid days
 unfolding clerkShows figuresFor days
-p-days = ((refl, refl, refl, refl), ((refl, refl, refl, refl), ((refl, refl, refl, refl), ((refl, refl, refl, refl), ((refl, refl, refl, refl), ((refl, refl, refl, refl), ((refl, refl, refl, refl), ((refl, refl, refl, refl), ((refl, refl, refl, refl), ((refl, refl, refl, refl), ((refl, refl, refl, refl), ((refl, refl, refl, refl), ((refl, refl, refl, refl), ((refl, refl, refl, refl), ((refl, refl, refl, refl), ((refl, refl, refl, refl), ((refl, refl, refl, refl), ((refl, refl, refl, refl), ((refl, refl, refl, refl), ((refl, refl, refl, refl), ((refl, refl, refl, refl), ((refl, refl, refl, refl), ((refl, refl, refl, refl), ((refl, refl, refl, refl), ((refl, refl, refl, refl), ((refl, refl, refl, refl), ((refl, refl, refl, refl), ((refl, refl, refl, refl), ((refl, refl, refl, refl), ((refl, refl, refl, refl), ((refl, refl, refl, refl), ((refl, refl, refl, refl), ((refl, refl, refl, refl), ((refl, refl, refl, refl), ((refl, refl, refl, refl), ((refl, refl, refl, refl), ((refl, refl, refl, refl), tt)))))))))))))))))))))))))))))))))))))
+p-days = (
+  (refl, refl, refl, refl),
+  (
+    (refl, refl, refl, refl),
+    (
+      (refl, refl, refl, refl),
+      (
+        (refl, refl, refl, refl),
+        (
+          (refl, refl, refl, refl),
+          (
+            (refl, refl, refl, refl),
+            (
+              (refl, refl, refl, refl),
+              (
+                (refl, refl, refl, refl),
+                (
+                  (refl, refl, refl, refl),
+                  (
+                    (refl, refl, refl, refl),
+                    (
+                      (refl, refl, refl, refl),
+                      (
+                        (refl, refl, refl, refl),
+                        (
+                          (refl, refl, refl, refl),
+                          (
+                            (refl, refl, refl, refl),
+                            (
+                              (refl, refl, refl, refl),
+                              (
+                                (refl, refl, refl, refl),
+                                (
+                                  (refl, refl, refl, refl),
+                                  (
+                                    (refl, refl, refl, refl),
+                                    (
+                                      (refl, refl, refl, refl),
+                                      (
+                                        (refl, refl, refl, refl),
+                                        (
+                                          (refl, refl, refl, refl),
+                                          (
+                                            (refl, refl, refl, refl),
+                                            (
+                                              (refl, refl, refl, refl),
+                                              (
+                                                (refl, refl, refl, refl),
+                                                (
+                                                  (refl, refl, refl, refl),
+                                                  (
+                                                    (refl, refl, refl, refl),
+                                                    (
+                                                      (refl, refl, refl, refl),
+                                                      (
+                                                        (refl, refl, refl, refl),
+                                                        (
+                                                          (refl, refl, refl, refl),
+                                                          (
+                                                            (refl, refl, refl, refl),
+                                                            (
+                                                              (refl, refl, refl, refl),
+                                                              (
+                                                                (refl, refl, refl, refl),
+                                                                (
+                                                                  (refl, refl, refl, refl),
+                                                                  (
+                                                                    (refl, refl, refl, refl),
+                                                                    (
+                                                                      (refl, refl, refl, refl),
+                                                                      (
+                                                                        (refl, refl, refl, refl),
+                                                                        (
+                                                                          (refl, refl, refl, refl),
+                                                                          tt,
+                                                                        ),
+                                                                      ),
+                                                                    ),
+                                                                  ),
+                                                                ),
+                                                              ),
+                                                            ),
+                                                          ),
+                                                        ),
+                                                      ),
+                                                    ),
+                                                  ),
+                                                ),
+                                              ),
+                                            ),
+                                          ),
+                                        ),
+                                      ),
+                                    ),
+                                  ),
+                                ),
+                              ),
+                            ),
+                          ),
+                        ),
+                      ),
+                    ),
+                  ),
+                ),
+              ),
+            ),
+          ),
+        ),
+      ),
+    ),
+  ),
+)

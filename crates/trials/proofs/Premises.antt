@@ -8,11 +8,12 @@ use mathlib.Core.List.{List}
 use native.Mathlib.Omega.{arith}
 use borrow.Author.Tests.{eq-eqb}
 use lib.ListN.{length}
-use Rattle.book.specs.declared.counters.Counters.{Counters}
-use Rattle.book.proofs.Sound.{sound-gives}
+use Rattle.rows.specs.declared.Listing.{Listing}
+use Rattle.counters.proofs.Sound.{sound-gives}
+use Rattle.book.specs.State.{State, Arrival, wantedIn}
 use Rattle.rows.specs.Rows.{rowLimit}
-use Rattle.clerk.specs.Clerk.{Listing, sheetOf}
-use Rattle.clerk.specs.Arrivals.{run, Largest, Arrival, numbers}
+use Rattle.clerk.specs.Clerk.{sheetOf}
+use Rattle.clerk.specs.Arrivals.{run, Largest, numbers}
 use Rattle.trials.specs.Premises.{Breaks, begun}
 use Rattle.clerk.proofs.InOrder.{got, got-at, largest-got}
 use Rattle.clerk.proofs.Sim.{listedBook}
@@ -44,13 +45,13 @@ premises-needed =
     }
 
 -- N is at most 4,294,967,295: no day brings a book past wanting the number after that
-pub last-wanted : {rows lines : List ℕ} {ls : List Listing} {l : List Arrival} {d : Counters} {endRows endLines : List ℕ}
-    → Day rows lines ls l d endRows endLines → d .wanted ≤ 4294967296
-last-wanted {rows} {lines} {ls} {l} {d} {endRows} {endLines} h =
+pub last-wanted : {rows lines : List ℕ} {ls : List Listing} {l : List Arrival} {end : State}
+    → Day rows lines ls l end → wantedIn end ≤ 4294967296
+last-wanted {rows} {lines} {ls} {l} {end} h =
     let e = delivers-are (length rows) (length lines) (listedBook (sheetOf (rowLimit (length rows)) ls)) (h .delivers) (sheet-stands h) in
-    sound-gives d (length endRows) (length endLines) (e .safe) .greatest
+    sound-gives (end .counters) (length (end .rows)) (length (end .lines)) (e .safe) .greatest
 
 -- so of a day of one message more the last is not used, though it comes in order
-pub one-too-many : {rows lines : List ℕ} {ls : List Listing} {l : List Arrival} {d : Counters} {endRows endLines : List ℕ}
-    → Day rows lines ls l d endRows endLines → numbers l ≡ run 1 4294967296 → Largest (numbers l) 4294967296 × (d .wanted ≡ 4294967297 → ⊥)
+pub one-too-many : {rows lines : List ℕ} {ls : List Listing} {l : List Arrival} {end : State}
+    → Day rows lines ls l end → numbers l ≡ run 1 4294967296 → Largest (numbers l) 4294967296 × (wantedIn end ≡ 4294967297 → ⊥)
 one-too-many h e = (subst (λ (ks : List ℕ). Largest ks 4294967296) (sym e) (largest-run 4294967296), λ w. omega (arith, w, last-wanted h))

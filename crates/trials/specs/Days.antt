@@ -9,7 +9,6 @@ use mathlib.Core.Bool.{Bool, true, false}
 use lib.IntN.{pos, negsuc}
 use lib.ListN.{getD, replicate}
 use Rattle.numbers.specs.Number.{digits}
-use Rattle.answers.specs.Answers.{numberOf}
 use Rattle.lines.specs.Lines.{lineLimit}
 use Rattle.rows.specs.Rows.{rowLimit}
 use Rattle.rows.specs.declared.Reported.{Reported}
@@ -19,9 +18,10 @@ use Rattle.walk.specs.declared.Price.the-variants.{Absent, Of}
 use Rattle.show.specs.declared.Net.{Net}
 use Rattle.show.specs.declared.Net.the-variants.{NoNet, Amount}
 use Rattle.show.specs.declared.RowShown.{RowShown}
-use Rattle.book.specs.declared.counters.Counters.{Counters}
-use Rattle.book.specs.Counting.{freshCounters}
-use Rattle.book.specs.Calls.{listSaid, listRows, deliverSaid, deliverRows, deliverLines, rowShown}
+use Rattle.rows.specs.declared.Listing.{Listing}
+use Rattle.counters.specs.Counting.{freshCounters}
+use Rattle.book.specs.State.{State, lent, arrives}
+use Rattle.book.specs.Calls.{listed, delivered, shown}
 use Rattle.octets.specs.Run as Run
 use Rattle.numbers.specs.Number as Number
 use Rattle.texts.specs.Text as Text
@@ -35,14 +35,16 @@ use Rattle.lines.specs.Lines as Lines
 use Rattle.rows.specs.Rows as Rows
 use Rattle.walk.specs.Figures as Figures
 use Rattle.show.specs.Showing as Showing
-use Rattle.keys.specs.Messages as Messages
+use Rattle.numbers.specs.Up as Up
+use Rattle.kinds.specs.Kinds as Kinds
+use Rattle.keys.specs.Keys as Keys
 use Rattle.table.specs.Table as Table
 use Rattle.take.specs.Taking as Taking
-use Rattle.book.specs.Counting as Counting
+use Rattle.counters.specs.Counting as Counting
 use Rattle.book.specs.Calls as Calls
 use Rattle.clerk.specs.Clerk as Clerk
 use Rattle.clerk.specs.Arrivals as Arrivals
-use Rattle.clerk.specs.Clerk.{Listing, sheetOf, takenOf, shownBy}
+use Rattle.clerk.specs.Clerk.{sheetOf, takenOf, shownBy}
 use Rattle.clerk.specs.Arrivals.{upto}
 
 -- ---- texts and messages
@@ -182,69 +184,57 @@ rowsRoom = 65
 abbrev pub linesRoom : ℕ
 linesRoom = 483
 
-pub record Kept : Type 0 where
-  pub counters : Counters
-  pub rows : List ℕ
-  pub lines : List ℕ
-
-unfoldable pub listedEach : Kept → List Listing → Kept
-listedEach k [] = k
-listedEach k (l ∷ ls) =
-    listedEach
-    (record {
-      counters = listSaid (k .counters) (k .rows) (k .lines) (l .symbol) (l .close) .counters;
-      rows = listRows (k .counters) (k .rows) (k .lines) (l .symbol) (l .close);
-      lines = k .lines;
-    })
-    ls
+unfoldable pub listedEach : State → List Listing → State
+listedEach s [] = s
+listedEach s (l ∷ ls) = listedEach (listed s l .state) ls
 
 -- a fresh book with the sheet finished
-unfoldable pub opened : List Listing → Kept
-opened sheet = listedEach (record { counters = freshCounters; rows = replicate rowsRoom 35; lines = replicate linesRoom 35 }) sheet
+unfoldable pub opened : List Listing → State
+opened sheet = listedEach (lent freshCounters (replicate rowsRoom 35) (replicate linesRoom 35)) sheet
 
-unfoldable pub given : Kept → ℕ → List ℕ → Kept
-given k n m =
-    record {
-      counters = deliverSaid (k .counters) (k .rows) (k .lines) n m .counters;
-      rows = deliverRows (k .counters) (k .rows) (k .lines) n m;
-      lines = deliverLines (k .counters) (k .rows) (k .lines) n m;
-    }
+unfoldable pub deliveredIn : State → ℕ → List ℕ → State
+deliveredIn s n m = delivered s (arrives n m) .state
 
-unfoldable pub answersTo : (ℕ → List ℕ) → Kept → List ℕ → List ℕ
-answersTo day k [] = []
-answersTo day k (n ∷ ns) = numberOf (deliverSaid (k .counters) (k .rows) (k .lines) n (day n) .answer) ∷ answersTo day (given k n (day n)) ns
+unfoldable pub answersTo : (ℕ → List ℕ) → State → List ℕ → List ℕ
+answersTo day s [] = []
+answersTo day s (n ∷ ns) = delivered s (arrives n (day n)) .answer ∷ answersTo day (deliveredIn s n (day n)) ns
 
-unfoldable pub keptAfter : (ℕ → List ℕ) → Kept → List ℕ → Kept
-keptAfter day k [] = k
-keptAfter day k (n ∷ ns) = keptAfter day (given k n (day n)) ns
+-- the state after these numbers of a day
+unfoldable pub leftBy : (ℕ → List ℕ) → State → List ℕ → State
+leftBy day s [] = s
+leftBy day s (n ∷ ns) = leftBy day (deliveredIn s n (day n)) ns
 
 unfoldable pub saidBack : Case → List ℕ
-unfolding Run.tab Run.part Number.be Number.digits Text.text Conditions.levelAt Conditions.marksOf Conditions.conditionMarks
-    Reading.lengthBy saleAt Fields.fieldsS Fields.fieldsTrade Fields.fieldsJ Fields.fieldsOf Lawful.saleOk Lawful.saleNone Lawful.pricesNone Lawful.tradeOk Lawful.lawfulS Lawful.lawfulT Lawful.lawfulC Lawful.lawfulJ Lawful.lawfulOf Reading.judgedOf Reading.readOf
-    Search.first Lines.lineFrom Lines.lineBytes Lines.usedLines Lines.lineIn Lines.withLine Lines.withDead
-    Rows.summaryAt Rows.reportedAt Rows.rowFrom Rows.newRow Rows.reportBytes Rows.summaryBytes Rows.usedRows Rows.rowIn Rows.inRow
+unfolding Run.tab Run.part Number.be Number.digits Up.up Text.text Conditions.levelAt Conditions.marksOf Conditions.conditionMarks
+    Reading.lengthBy saleAt Fields.fieldsS Fields.fieldsTrade Fields.fieldsJ Fields.fieldsOf
+    Lawful.saleOk Lawful.saleNone Lawful.pricesNone Lawful.tradeOk Lawful.lawfulS Lawful.lawfulT Lawful.lawfulC Lawful.lawfulJ Lawful.lawfulOf
+    Reading.judgedOf Reading.readOf Search.first Lines.lineFrom Lines.lineBytes Lines.usedLines Lines.lineIn Lines.withLine Lines.withDead
+    Rows.listingFrom Rows.summaryAt Rows.reportedAt Rows.rowFrom Rows.newRow Rows.reportBytes Rows.summaryBytes Rows.usedRows Rows.rowIn Rows.inRow
     Figures.counts Figures.sold Figures.tally Figures.fold Figures.figuresOf Showing.shownOf
-    Messages.matches Table.numberTable Table.contentTable Table.listTable Taking.linesBy Taking.rowsBy
-    Counting.sound Counting.takenBy Calls.listAnswer Calls.listSaid Calls.listRows Calls.deliverAnswer Calls.deliverSaid Calls.deliverRows Calls.deliverLines Calls.rowAnswer Calls.rowShown
-    figuresFor listedEach opened given answersTo keptAfter
+    Kinds.kindOf Keys.matches Table.numberTable Table.contentTable Taking.linesBy Taking.rowsBy Counting.sound Counting.takenBy
+    Calls.listTable Calls.listAnswer Calls.listed Calls.messageGiven Calls.delivered Calls.rowAnswer Calls.shown
+    figuresFor listedEach opened deliveredIn answersTo leftBy
 saidBack c = answersTo (dayOf (c .day)) (opened (c .sheet)) (c .arrivals)
 
 -- how many numbers are used up
 unfoldable pub numbersUsed : Case → ℕ
 unfolding saidBack
-numbersUsed c = keptAfter (dayOf (c .day)) (opened (c .sheet)) (c .arrivals) .counters .wanted - 1
+numbersUsed c = leftBy (dayOf (c .day)) (opened (c .sheet)) (c .arrivals) .counters .wanted - 1
 
 unfoldable pub bookShows : Case → List RowShown
 unfolding numbersUsed
 bookShows c =
-    let k = keptAfter (dayOf (c .day)) (opened (c .sheet)) (c .arrivals) in
-    map (λ (l : Listing). rowShown (k .counters) (k .rows) (k .lines) (l .symbol) .row) (c .sheet)
+    let s = leftBy (dayOf (c .day)) (opened (c .sheet)) (c .arrivals) in
+    map (λ (l : Listing). shown s (l .symbol) .row) (c .sheet)
 
 -- ---- worked by the clerk
 
 unfoldable pub clerkShows : Case → List RowShown
-unfolding bookShows Clerk.sheetFrom Clerk.phaseAfter Clerk.originOf Clerk.tradesBut Clerk.takenOf Clerk.summaryOf Clerk.reportedOf Clerk.rowOf Clerk.shownBy Arrivals.upto
-clerkShows c = map (shownBy (takenOf (sheetOf (rowLimit rowsRoom) (c .sheet)) (lineLimit linesRoom) (upto (dayOf (c .day)) (c .used)))) (c .sheet)
+unfolding bookShows Clerk.sheetFrom Clerk.phaseAfter Clerk.originOf Clerk.tradesBut Clerk.takenOf Clerk.summaryOf Clerk.reportedOf Clerk.rowOf
+    Clerk.shownBy Arrivals.upto
+clerkShows c =
+    let es = takenOf (sheetOf (rowLimit rowsRoom) (c .sheet)) (lineLimit linesRoom) (upto (dayOf (c .day)) (c .used)) in
+    map (shownBy es) (c .sheet)
 
 -- ---- the table
 
@@ -256,77 +246,390 @@ AsSaid (c ∷ cs) = ((saidBack c ≡ c .said) × (numbersUsed c ≡ c .used) × 
 unfoldable pub days : List Case
 days =
     -- 1: W after number 3
-    record { sheet = alone 250000; day = w; arrivals = 1 ∷ 2 ∷ 3 ∷ []; said = 0 ∷ 0 ∷ 0 ∷ []; used = 3; shown = priced 250000 260000 260000 251000 (Amount (pos 10000)) 400 2 400 ∷ [] }
+    record {
+      sheet = alone 250000;
+      day = w;
+      arrivals = 1 ∷ 2 ∷ 3 ∷ [];
+      said = 0 ∷ 0 ∷ 0 ∷ [];
+      used = 3;
+      shown = priced 250000 260000 260000 251000 (Amount (pos 10000)) 400 2 400 ∷ [];
+    }
     -- 2: W after 4
-    ∷ record { sheet = alone 250000; day = w; arrivals = 1 ∷ 2 ∷ 3 ∷ 4 ∷ []; said = 0 ∷ 0 ∷ 0 ∷ 0 ∷ []; used = 4; shown = priced 250000 260000 260000 251000 (Amount (pos 10000)) 450 3 450 ∷ [] }
+    ∷ record {
+      sheet = alone 250000;
+      day = w;
+      arrivals = 1 ∷ 2 ∷ 3 ∷ 4 ∷ [];
+      said = 0 ∷ 0 ∷ 0 ∷ 0 ∷ [];
+      used = 4;
+      shown = priced 250000 260000 260000 251000 (Amount (pos 10000)) 450 3 450 ∷ [];
+    }
     -- 3: W after 5
-    ∷ record { sheet = alone 250000; day = w; arrivals = 1 ∷ 2 ∷ 3 ∷ 4 ∷ 5 ∷ []; said = 0 ∷ 0 ∷ 0 ∷ 0 ∷ 0 ∷ []; used = 5; shown = priced 250000 251000 251000 251000 (Amount (pos 1000)) 150 2 500 ∷ [] }
+    ∷ record {
+      sheet = alone 250000;
+      day = w;
+      arrivals = 1 ∷ 2 ∷ 3 ∷ 4 ∷ 5 ∷ [];
+      said = 0 ∷ 0 ∷ 0 ∷ 0 ∷ 0 ∷ [];
+      used = 5;
+      shown = priced 250000 251000 251000 251000 (Amount (pos 1000)) 150 2 500 ∷ [];
+    }
     -- 4: W after 6
-    ∷ record { sheet = alone 250000; day = w; arrivals = 1 ∷ 2 ∷ 3 ∷ 4 ∷ 5 ∷ 6 ∷ []; said = 0 ∷ 0 ∷ 0 ∷ 0 ∷ 0 ∷ 0 ∷ []; used = 6; shown = priced 250000 252500 252500 252500 (Amount (pos 2500)) 170 2 600 ∷ [] }
+    ∷ record {
+      sheet = alone 250000;
+      day = w;
+      arrivals = 1 ∷ 2 ∷ 3 ∷ 4 ∷ 5 ∷ 6 ∷ [];
+      said = 0 ∷ 0 ∷ 0 ∷ 0 ∷ 0 ∷ 0 ∷ [];
+      used = 6;
+      shown = priced 250000 252500 252500 252500 (Amount (pos 2500)) 170 2 600 ∷ [];
+    }
     -- 5: a second X of Q 2
-    ∷ record { sheet = alone 250000; day = w ++ (cancel 7 81 q2 700 ∷ []); arrivals = 1 ∷ 2 ∷ 3 ∷ 4 ∷ 5 ∷ 6 ∷ 7 ∷ []; said = 0 ∷ 0 ∷ 0 ∷ 0 ∷ 0 ∷ 0 ∷ 9 ∷ []; used = 7; shown = priced 250000 252500 252500 252500 (Amount (pos 2500)) 170 2 600 ∷ [] }
+    ∷ record {
+      sheet = alone 250000;
+      day = w ++ (cancel 7 81 q2 700 ∷ []);
+      arrivals = 1 ∷ 2 ∷ 3 ∷ 4 ∷ 5 ∷ 6 ∷ 7 ∷ [];
+      said = 0 ∷ 0 ∷ 0 ∷ 0 ∷ 0 ∷ 0 ∷ 9 ∷ [];
+      used = 7;
+      shown = priced 250000 252500 252500 252500 (Amount (pos 2500)) 170 2 600 ∷ [];
+    }
     -- 6: X naming Q 2 with another size
-    ∷ record { sheet = alone 250000; day = event 1 79 ∷ trade 2 81 q1 100 ∷ trade 3 81 q2 400 ∷ cancel 4 81 (sale 50 260000 299 plain) 450 ∷ []; arrivals = 1 ∷ 2 ∷ 3 ∷ 4 ∷ []; said = 0 ∷ 0 ∷ 0 ∷ 10 ∷ []; used = 4; shown = priced 250000 260000 260000 251000 (Amount (pos 10000)) 400 2 400 ∷ [] }
+    ∷ record {
+      sheet = alone 250000;
+      day = event 1 79 ∷ trade 2 81 q1 100 ∷ trade 3 81 q2 400 ∷ cancel 4 81 (sale 50 260000 299 plain) 450 ∷ [];
+      arrivals = 1 ∷ 2 ∷ 3 ∷ 4 ∷ [];
+      said = 0 ∷ 0 ∷ 0 ∷ 10 ∷ [];
+      used = 4;
+      shown = priced 250000 260000 260000 251000 (Amount (pos 10000)) 400 2 400 ∷ [];
+    }
     -- 7: C whose new control is its own old one
-    ∷ record { sheet = alone 250000; day = event 1 79 ∷ trade 2 81 q1 100 ∷ correct 3 81 q1 (sale 49 252500 120 plain) 600 ∷ []; arrivals = 1 ∷ 2 ∷ 3 ∷ []; said = 0 ∷ 0 ∷ 11 ∷ []; used = 3; shown = priced 250000 251000 251000 251000 (Amount (pos 1000)) 100 1 100 ∷ [] }
+    ∷ record {
+      sheet = alone 250000;
+      day = event 1 79 ∷ trade 2 81 q1 100 ∷ correct 3 81 q1 (sale 49 252500 120 plain) 600 ∷ [];
+      arrivals = 1 ∷ 2 ∷ 3 ∷ [];
+      said = 0 ∷ 0 ∷ 11 ∷ [];
+      used = 3;
+      shown = priced 250000 251000 251000 251000 (Amount (pos 1000)) 100 1 100 ∷ [];
+    }
     -- 8: a number that comes too early, and again
-    ∷ record { sheet = alone 250000; day = w; arrivals = 1 ∷ 3 ∷ 2 ∷ 3 ∷ []; said = 0 ∷ 3 ∷ 0 ∷ 0 ∷ []; used = 3; shown = priced 250000 260000 260000 251000 (Amount (pos 10000)) 400 2 400 ∷ [] }
+    ∷ record {
+      sheet = alone 250000;
+      day = w;
+      arrivals = 1 ∷ 3 ∷ 2 ∷ 3 ∷ [];
+      said = 0 ∷ 3 ∷ 0 ∷ 0 ∷ [];
+      used = 3;
+      shown = priced 250000 260000 260000 251000 (Amount (pos 10000)) 400 2 400 ∷ [];
+    }
     -- 9: an empty message uses up its number
-    ∷ record { sheet = alone 250000; day = event 1 79 ∷ [] ∷ trade 3 81 q1 100 ∷ []; arrivals = 1 ∷ 2 ∷ 3 ∷ []; said = 0 ∷ 4 ∷ 0 ∷ []; used = 3; shown = priced 250000 251000 251000 251000 (Amount (pos 1000)) 100 1 100 ∷ [] }
+    ∷ record {
+      sheet = alone 250000;
+      day = event 1 79 ∷ [] ∷ trade 3 81 q1 100 ∷ [];
+      arrivals = 1 ∷ 2 ∷ 3 ∷ [];
+      said = 0 ∷ 4 ∷ 0 ∷ [];
+      used = 3;
+      shown = priced 250000 251000 251000 251000 (Amount (pos 1000)) 100 1 100 ∷ [];
+    }
     -- 10: the ends of a price
-    ∷ record { sheet = alone 250000; day = event 1 79 ∷ trade 2 81 (sale 49 2000000000 1 plain) 1 ∷ trade 3 81 (sale 50 2000000001 1 plain) 2 ∷ trade 4 81 (sale 51 0 1 plain) 3 ∷ []; arrivals = 1 ∷ 2 ∷ 3 ∷ 4 ∷ []; said = 0 ∷ 0 ∷ 5 ∷ 5 ∷ []; used = 4; shown = priced 250000 2000000000 2000000000 2000000000 (Amount (pos 1999750000)) 1 1 1 ∷ [] }
+    ∷ record {
+      sheet = alone 250000;
+      day =
+          event 1 79 ∷ trade 2 81 (sale 49 2000000000 1 plain) 1 ∷ trade 3 81 (sale 50 2000000001 1 plain) 2
+          ∷ trade 4 81 (sale 51 0 1 plain) 3 ∷ [];
+      arrivals = 1 ∷ 2 ∷ 3 ∷ 4 ∷ [];
+      said = 0 ∷ 0 ∷ 5 ∷ 5 ∷ [];
+      used = 4;
+      shown = priced 250000 2000000000 2000000000 2000000000 (Amount (pos 1999750000)) 1 1 1 ∷ [];
+    }
     -- 13: number 0, and an event that comes too late
-    ∷ record { sheet = alone 250000; day = event 1 81 ∷ event 2 83 ∷ []; arrivals = 1 ∷ 0 ∷ 2 ∷ []; said = 0 ∷ 1 ∷ 6 ∷ []; used = 2; shown = figures 250000 Absent Absent Absent NoNet 0 0 false NotSet ∷ [] }
+    ∷ record {
+      sheet = alone 250000;
+      day = event 1 81 ∷ event 2 83 ∷ [];
+      arrivals = 1 ∷ 0 ∷ 2 ∷ [];
+      said = 0 ∷ 1 ∷ 6 ∷ [];
+      used = 2;
+      shown = figures 250000 Absent Absent Absent NoNet 0 0 false NotSet ∷ [];
+    }
     -- trades that may set high and low only, by 4, L and Z
-    ∷ record { sheet = alone 250000; day = event 1 79 ∷ trade 2 81 (sale 49 251000 100 plain) 1 ∷ trade 3 81 (sale 50 260000 300 (codes 64 52 32 32)) 2 ∷ trade 4 81 (sale 51 240000 10 (codes 64 32 76 32)) 3 ∷ trade 5 81 (sale 52 270000 20 (codes 64 32 90 32)) 4 ∷ []; arrivals = 1 ∷ 2 ∷ 3 ∷ 4 ∷ 5 ∷ []; said = 0 ∷ 0 ∷ 0 ∷ 0 ∷ 0 ∷ []; used = 5; shown = priced 250000 251000 270000 240000 (Amount (pos 1000)) 430 4 4 ∷ [] }
+    ∷ record {
+      sheet = alone 250000;
+      day =
+          event 1 79 ∷ trade 2 81 (sale 49 251000 100 plain) 1 ∷ trade 3 81 (sale 50 260000 300 (codes 64 52 32 32)) 2
+          ∷ trade 4 81 (sale 51 240000 10 (codes 64 32 76 32)) 3 ∷ trade 5 81 (sale 52 270000 20 (codes 64 32 90 32)) 4 ∷ [];
+      arrivals = 1 ∷ 2 ∷ 3 ∷ 4 ∷ 5 ∷ [];
+      said = 0 ∷ 0 ∷ 0 ∷ 0 ∷ 0 ∷ [];
+      used = 5;
+      shown = priced 250000 251000 270000 240000 (Amount (pos 1000)) 430 4 4 ∷ [];
+    }
     -- a trade with neither mark
-    ∷ record { sheet = alone 250000; day = event 1 79 ∷ trade 2 81 (sale 49 251000 100 (codes 67 32 32 32)) 1 ∷ []; arrivals = 1 ∷ 2 ∷ []; said = 0 ∷ 0 ∷ []; used = 2; shown = figures 250000 Absent Absent Absent NoNet 100 1 false (Volume 1) ∷ [] }
+    ∷ record {
+      sheet = alone 250000;
+      day = event 1 79 ∷ trade 2 81 (sale 49 251000 100 (codes 67 32 32 32)) 1 ∷ [];
+      arrivals = 1 ∷ 2 ∷ [];
+      said = 0 ∷ 0 ∷ [];
+      used = 2;
+      shown = figures 250000 Absent Absent Absent NoNet 100 1 false (Volume 1) ∷ [];
+    }
     -- a trade for each column of each level
-    ∷ record { sheet = alone 1000; day = event 1 79 ∷ trade 2 81 (sale 49 1000 1 plain) 1 ∷ trade 3 81 (sale 50 5000 2 (codes 78 32 32 32)) 2 ∷ trade 4 81 (sale 51 1100 4 (codes 64 70 32 32)) 3 ∷ trade 5 81 (sale 52 4000 8 (codes 64 52 32 32)) 4 ∷ trade 6 81 (sale 53 6000 16 (codes 64 55 32 32)) 5 ∷ trade 7 81 (sale 54 500 32 (codes 64 32 90 32)) 6 ∷ trade 8 81 (sale 55 1 64 (codes 64 32 84 32)) 7 ∷ trade 9 81 (sale 56 1200 128 (codes 64 32 32 65)) 8 ∷ trade 10 81 (sale 57 7000 256 (codes 64 32 32 87)) 9 ∷ []; arrivals = 1 ∷ 2 ∷ 3 ∷ 4 ∷ 5 ∷ 6 ∷ 7 ∷ 8 ∷ 9 ∷ 10 ∷ []; said = 0 ∷ 0 ∷ 0 ∷ 0 ∷ 0 ∷ 0 ∷ 0 ∷ 0 ∷ 0 ∷ 0 ∷ []; used = 10; shown = priced 1000 1200 4000 500 (Amount (pos 200)) 511 9 9 ∷ [] }
+    ∷ record {
+      sheet = alone 1000;
+      day =
+          event 1 79 ∷ trade 2 81 (sale 49 1000 1 plain) 1 ∷ trade 3 81 (sale 50 5000 2 (codes 78 32 32 32)) 2
+          ∷ trade 4 81 (sale 51 1100 4 (codes 64 70 32 32)) 3 ∷ trade 5 81 (sale 52 4000 8 (codes 64 52 32 32)) 4
+          ∷ trade 6 81 (sale 53 6000 16 (codes 64 55 32 32)) 5 ∷ trade 7 81 (sale 54 500 32 (codes 64 32 90 32)) 6
+          ∷ trade 8 81 (sale 55 1 64 (codes 64 32 84 32)) 7 ∷ trade 9 81 (sale 56 1200 128 (codes 64 32 32 65)) 8
+          ∷ trade 10 81 (sale 57 7000 256 (codes 64 32 32 87)) 9 ∷ [];
+      arrivals = 1 ∷ 2 ∷ 3 ∷ 4 ∷ 5 ∷ 6 ∷ 7 ∷ 8 ∷ 9 ∷ 10 ∷ [];
+      said = 0 ∷ 0 ∷ 0 ∷ 0 ∷ 0 ∷ 0 ∷ 0 ∷ 0 ∷ 0 ∷ 0 ∷ [];
+      used = 10;
+      shown = priced 1000 1200 4000 500 (Amount (pos 200)) 511 9 9 ∷ [];
+    }
     -- a chain of three corrections keeps the first trade's place
-    ∷ record { sheet = alone 1000; day = event 1 79 ∷ trade 2 81 (sale 49 1000 10 plain) 1 ∷ trade 3 81 (sale 50 2000 20 plain) 2 ∷ correct 4 81 (sale 49 1000 10 plain) (sale 51 1100 11 plain) 3 ∷ correct 5 81 (sale 51 1100 11 plain) (sale 52 1200 12 plain) 4 ∷ correct 6 81 (sale 52 1200 12 plain) (sale 53 1300 13 plain) 5 ∷ []; arrivals = 1 ∷ 2 ∷ 3 ∷ 4 ∷ 5 ∷ 6 ∷ []; said = 0 ∷ 0 ∷ 0 ∷ 0 ∷ 0 ∷ 0 ∷ []; used = 6; shown = priced 1000 2000 2000 1300 (Amount (pos 1000)) 33 2 5 ∷ [] }
+    ∷ record {
+      sheet = alone 1000;
+      day =
+          event 1 79 ∷ trade 2 81 (sale 49 1000 10 plain) 1 ∷ trade 3 81 (sale 50 2000 20 plain) 2
+          ∷ correct 4 81 (sale 49 1000 10 plain) (sale 51 1100 11 plain) 3
+          ∷ correct 5 81 (sale 51 1100 11 plain) (sale 52 1200 12 plain) 4
+          ∷ correct 6 81 (sale 52 1200 12 plain) (sale 53 1300 13 plain) 5 ∷ [];
+      arrivals = 1 ∷ 2 ∷ 3 ∷ 4 ∷ 5 ∷ 6 ∷ [];
+      said = 0 ∷ 0 ∷ 0 ∷ 0 ∷ 0 ∷ 0 ∷ [];
+      used = 6;
+      shown = priced 1000 2000 2000 1300 (Amount (pos 1000)) 33 2 5 ∷ [];
+    }
     -- a correction that changes the condition
-    ∷ record { sheet = alone 1000; day = event 1 79 ∷ trade 2 81 (sale 49 1000 10 plain) 1 ∷ correct 3 81 (sale 49 1000 10 plain) (sale 50 1000 10 (codes 64 32 32 73)) 2 ∷ []; arrivals = 1 ∷ 2 ∷ 3 ∷ []; said = 0 ∷ 0 ∷ 0 ∷ []; used = 3; shown = figures 1000 Absent Absent Absent NoNet 10 1 false (Volume 2) ∷ [] }
+    ∷ record {
+      sheet = alone 1000;
+      day =
+          event 1 79 ∷ trade 2 81 (sale 49 1000 10 plain) 1
+          ∷ correct 3 81 (sale 49 1000 10 plain) (sale 50 1000 10 (codes 64 32 32 73)) 2 ∷ [];
+      arrivals = 1 ∷ 2 ∷ 3 ∷ [];
+      said = 0 ∷ 0 ∷ 0 ∷ [];
+      used = 3;
+      shown = figures 1000 Absent Absent Absent NoNet 10 1 false (Volume 2) ∷ [];
+    }
     -- a J that agrees
-    ∷ record { sheet = alone 250000; day = event 1 79 ∷ trade 2 81 q1 100 ∷ summary 3 251000 251000 7 ∷ []; arrivals = 1 ∷ 2 ∷ 3 ∷ []; said = 0 ∷ 0 ∷ 0 ∷ []; used = 3; shown = figures 250000 (Of 251000) (Of 251000) (Of 251000) (Amount (pos 1000)) 100 1 true (Volume 7) ∷ [] }
+    ∷ record {
+      sheet = alone 250000;
+      day = event 1 79 ∷ trade 2 81 q1 100 ∷ summary 3 251000 251000 7 ∷ [];
+      arrivals = 1 ∷ 2 ∷ 3 ∷ [];
+      said = 0 ∷ 0 ∷ 0 ∷ [];
+      used = 3;
+      shown = figures 250000 (Of 251000) (Of 251000) (Of 251000) (Amount (pos 1000)) 100 1 true (Volume 7) ∷ [];
+    }
     -- a J whose low is another
-    ∷ record { sheet = alone 250000; day = event 1 79 ∷ trade 2 81 q1 100 ∷ summary 3 251000 250999 7 ∷ summary 4 251000 251000 8 ∷ summary 5 251001 251000 9 ∷ []; arrivals = 1 ∷ 2 ∷ 3 ∷ []; said = 0 ∷ 0 ∷ 0 ∷ []; used = 3; shown = figures 250000 (Of 251000) (Of 251000) (Of 251000) (Amount (pos 1000)) 100 1 false (Volume 7) ∷ [] }
+    ∷ record {
+      sheet = alone 250000;
+      day =
+          event 1 79 ∷ trade 2 81 q1 100 ∷ summary 3 251000 250999 7 ∷ summary 4 251000 251000 8 ∷ summary 5 251001 251000 9
+          ∷ [];
+      arrivals = 1 ∷ 2 ∷ 3 ∷ [];
+      said = 0 ∷ 0 ∷ 0 ∷ [];
+      used = 3;
+      shown = figures 250000 (Of 251000) (Of 251000) (Of 251000) (Amount (pos 1000)) 100 1 false (Volume 7) ∷ [];
+    }
     -- replaced by one that agrees
-    ∷ record { sheet = alone 250000; day = event 1 79 ∷ trade 2 81 q1 100 ∷ summary 3 251000 250999 7 ∷ summary 4 251000 251000 8 ∷ summary 5 251001 251000 9 ∷ []; arrivals = 1 ∷ 2 ∷ 3 ∷ 4 ∷ []; said = 0 ∷ 0 ∷ 0 ∷ 0 ∷ []; used = 4; shown = figures 250000 (Of 251000) (Of 251000) (Of 251000) (Amount (pos 1000)) 100 1 true (Volume 8) ∷ [] }
+    ∷ record {
+      sheet = alone 250000;
+      day =
+          event 1 79 ∷ trade 2 81 q1 100 ∷ summary 3 251000 250999 7 ∷ summary 4 251000 251000 8 ∷ summary 5 251001 251000 9
+          ∷ [];
+      arrivals = 1 ∷ 2 ∷ 3 ∷ 4 ∷ [];
+      said = 0 ∷ 0 ∷ 0 ∷ 0 ∷ [];
+      used = 4;
+      shown = figures 250000 (Of 251000) (Of 251000) (Of 251000) (Amount (pos 1000)) 100 1 true (Volume 8) ∷ [];
+    }
     -- and that by one whose high is another
-    ∷ record { sheet = alone 250000; day = event 1 79 ∷ trade 2 81 q1 100 ∷ summary 3 251000 250999 7 ∷ summary 4 251000 251000 8 ∷ summary 5 251001 251000 9 ∷ []; arrivals = 1 ∷ 2 ∷ 3 ∷ 4 ∷ 5 ∷ []; said = 0 ∷ 0 ∷ 0 ∷ 0 ∷ 0 ∷ []; used = 5; shown = figures 250000 (Of 251000) (Of 251000) (Of 251000) (Amount (pos 1000)) 100 1 false (Volume 9) ∷ [] }
+    ∷ record {
+      sheet = alone 250000;
+      day =
+          event 1 79 ∷ trade 2 81 q1 100 ∷ summary 3 251000 250999 7 ∷ summary 4 251000 251000 8 ∷ summary 5 251001 251000 9
+          ∷ [];
+      arrivals = 1 ∷ 2 ∷ 3 ∷ 4 ∷ 5 ∷ [];
+      said = 0 ∷ 0 ∷ 0 ∷ 0 ∷ 0 ∷ [];
+      used = 5;
+      shown = figures 250000 (Of 251000) (Of 251000) (Of 251000) (Amount (pos 1000)) 100 1 false (Volume 9) ∷ [];
+    }
     -- where high and low differ: a J with another low
-    ∷ record { sheet = alone 250000; day = event 1 79 ∷ trade 2 81 q1 100 ∷ trade 3 81 q2 400 ∷ summary 4 260000 250999 7 ∷ []; arrivals = 1 ∷ 2 ∷ 3 ∷ 4 ∷ []; said = 0 ∷ 0 ∷ 0 ∷ 0 ∷ []; used = 4; shown = figures 250000 (Of 260000) (Of 260000) (Of 251000) (Amount (pos 10000)) 400 2 false (Volume 7) ∷ [] }
+    ∷ record {
+      sheet = alone 250000;
+      day = event 1 79 ∷ trade 2 81 q1 100 ∷ trade 3 81 q2 400 ∷ summary 4 260000 250999 7 ∷ [];
+      arrivals = 1 ∷ 2 ∷ 3 ∷ 4 ∷ [];
+      said = 0 ∷ 0 ∷ 0 ∷ 0 ∷ [];
+      used = 4;
+      shown = figures 250000 (Of 260000) (Of 260000) (Of 251000) (Amount (pos 10000)) 400 2 false (Volume 7) ∷ [];
+    }
     -- a J with the two turned
-    ∷ record { sheet = alone 250000; day = event 1 79 ∷ trade 2 81 q1 100 ∷ trade 3 81 q2 400 ∷ summary 4 251000 260000 7 ∷ []; arrivals = 1 ∷ 2 ∷ 3 ∷ 4 ∷ []; said = 0 ∷ 0 ∷ 0 ∷ 0 ∷ []; used = 4; shown = figures 250000 (Of 260000) (Of 260000) (Of 251000) (Amount (pos 10000)) 400 2 false (Volume 7) ∷ [] }
+    ∷ record {
+      sheet = alone 250000;
+      day = event 1 79 ∷ trade 2 81 q1 100 ∷ trade 3 81 q2 400 ∷ summary 4 251000 260000 7 ∷ [];
+      arrivals = 1 ∷ 2 ∷ 3 ∷ 4 ∷ [];
+      said = 0 ∷ 0 ∷ 0 ∷ 0 ∷ [];
+      used = 4;
+      shown = figures 250000 (Of 260000) (Of 260000) (Of 251000) (Amount (pos 10000)) 400 2 false (Volume 7) ∷ [];
+    }
     -- a J with another low, replaced by one that agrees
-    ∷ record { sheet = alone 250000; day = event 1 79 ∷ trade 2 81 q1 100 ∷ trade 3 81 q2 400 ∷ summary 4 260000 250999 7 ∷ summary 5 260000 251000 8 ∷ []; arrivals = 1 ∷ 2 ∷ 3 ∷ 4 ∷ 5 ∷ []; said = 0 ∷ 0 ∷ 0 ∷ 0 ∷ 0 ∷ []; used = 5; shown = figures 250000 (Of 260000) (Of 260000) (Of 251000) (Amount (pos 10000)) 400 2 true (Volume 8) ∷ [] }
+    ∷ record {
+      sheet = alone 250000;
+      day =
+          event 1 79 ∷ trade 2 81 q1 100 ∷ trade 3 81 q2 400 ∷ summary 4 260000 250999 7 ∷ summary 5 260000 251000 8 ∷ [];
+      arrivals = 1 ∷ 2 ∷ 3 ∷ 4 ∷ 5 ∷ [];
+      said = 0 ∷ 0 ∷ 0 ∷ 0 ∷ 0 ∷ [];
+      used = 5;
+      shown = figures 250000 (Of 260000) (Of 260000) (Of 251000) (Amount (pos 10000)) 400 2 true (Volume 8) ∷ [];
+    }
     -- a J of zeros agrees with a row that has no high and no low
-    ∷ record { sheet = alone 250000; day = event 1 79 ∷ summary 2 0 0 3 ∷ []; arrivals = 1 ∷ 2 ∷ []; said = 0 ∷ 0 ∷ []; used = 2; shown = figures 250000 Absent Absent Absent NoNet 0 0 true (Volume 3) ∷ [] }
+    ∷ record {
+      sheet = alone 250000;
+      day = event 1 79 ∷ summary 2 0 0 3 ∷ [];
+      arrivals = 1 ∷ 2 ∷ [];
+      said = 0 ∷ 0 ∷ [];
+      used = 2;
+      shown = figures 250000 Absent Absent Absent NoNet 0 0 true (Volume 3) ∷ [];
+    }
     -- 12: last 1, close 2,000,000,000
-    ∷ record { sheet = alone 2000000000; day = event 1 79 ∷ trade 2 81 (sale 49 1 1 plain) 1 ∷ []; arrivals = 1 ∷ 2 ∷ []; said = 0 ∷ 0 ∷ []; used = 2; shown = priced 2000000000 1 1 1 (Amount (negsuc 1999999998)) 1 1 1 ∷ [] }
+    ∷ record {
+      sheet = alone 2000000000;
+      day = event 1 79 ∷ trade 2 81 (sale 49 1 1 plain) 1 ∷ [];
+      arrivals = 1 ∷ 2 ∷ [];
+      said = 0 ∷ 0 ∷ [];
+      used = 2;
+      shown = priced 2000000000 1 1 1 (Amount (negsuc 1999999998)) 1 1 1 ∷ [];
+    }
     -- no net where the close is 0
-    ∷ record { sheet = alone 0; day = event 1 79 ∷ trade 2 81 (sale 49 251000 1 plain) 1 ∷ []; arrivals = 1 ∷ 2 ∷ []; said = 0 ∷ 0 ∷ []; used = 2; shown = priced 0 251000 251000 251000 NoNet 1 1 1 ∷ [] }
+    ∷ record {
+      sheet = alone 0;
+      day = event 1 79 ∷ trade 2 81 (sale 49 251000 1 plain) 1 ∷ [];
+      arrivals = 1 ∷ 2 ∷ [];
+      said = 0 ∷ 0 ∷ [];
+      used = 2;
+      shown = priced 0 251000 251000 251000 NoNet 1 1 1 ∷ [];
+    }
     -- equal prices
-    ∷ record { sheet = alone 1000; day = event 1 79 ∷ trade 2 81 (sale 49 1000 1 plain) 1 ∷ trade 3 81 (sale 50 1000 2 plain) 2 ∷ []; arrivals = 1 ∷ 2 ∷ 3 ∷ []; said = 0 ∷ 0 ∷ 0 ∷ []; used = 3; shown = priced 1000 1000 1000 1000 (Amount (pos 0)) 3 2 2 ∷ [] }
+    ∷ record {
+      sheet = alone 1000;
+      day = event 1 79 ∷ trade 2 81 (sale 49 1000 1 plain) 1 ∷ trade 3 81 (sale 50 1000 2 plain) 2 ∷ [];
+      arrivals = 1 ∷ 2 ∷ 3 ∷ [];
+      said = 0 ∷ 0 ∷ 0 ∷ [];
+      used = 3;
+      shown = priced 1000 1000 1000 1000 (Amount (pos 0)) 3 2 2 ∷ [];
+    }
     -- the only high cancelled
-    ∷ record { sheet = alone 1000; day = event 1 79 ∷ trade 2 81 (sale 49 1000 1 plain) 1 ∷ trade 3 81 (sale 50 2000 2 plain) 2 ∷ cancel 4 81 (sale 50 2000 2 plain) 3 ∷ []; arrivals = 1 ∷ 2 ∷ 3 ∷ 4 ∷ []; said = 0 ∷ 0 ∷ 0 ∷ 0 ∷ []; used = 4; shown = priced 1000 1000 1000 1000 (Amount (pos 0)) 1 1 3 ∷ [] }
+    ∷ record {
+      sheet = alone 1000;
+      day =
+          event 1 79 ∷ trade 2 81 (sale 49 1000 1 plain) 1 ∷ trade 3 81 (sale 50 2000 2 plain) 2
+          ∷ cancel 4 81 (sale 50 2000 2 plain) 3 ∷ [];
+      arrivals = 1 ∷ 2 ∷ 3 ∷ 4 ∷ [];
+      said = 0 ∷ 0 ∷ 0 ∷ 0 ∷ [];
+      used = 4;
+      shown = priced 1000 1000 1000 1000 (Amount (pos 0)) 1 1 3 ∷ [];
+    }
     -- copies of numbers that are used up
-    ∷ record { sheet = alone 250000; day = w; arrivals = 1 ∷ 1 ∷ 2 ∷ 2 ∷ 1 ∷ 3 ∷ []; said = 0 ∷ 2 ∷ 0 ∷ 2 ∷ 2 ∷ 0 ∷ []; used = 3; shown = priced 250000 260000 260000 251000 (Amount (pos 10000)) 400 2 400 ∷ [] }
+    ∷ record {
+      sheet = alone 250000;
+      day = w;
+      arrivals = 1 ∷ 1 ∷ 2 ∷ 2 ∷ 1 ∷ 3 ∷ [];
+      said = 0 ∷ 2 ∷ 0 ∷ 2 ∷ 2 ∷ 0 ∷ [];
+      used = 3;
+      shown = priced 250000 260000 260000 251000 (Amount (pos 10000)) 400 2 400 ∷ [];
+    }
     -- X with another price, another condition, a key that no line bears; X of Q 1; its key again; X of it with another size
-    ∷ record { sheet = alone 250000; day = event 1 79 ∷ trade 2 81 q1 100 ∷ cancel 3 81 (sale 49 251001 100 plain) 300 ∷ cancel 4 81 (sale 49 251000 100 (codes 64 70 32 32)) 400 ∷ cancel 5 81 q2 500 ∷ cancel 6 81 q1 600 ∷ trade 7 81 q1 700 ∷ cancel 8 81 (sale 49 251000 99 plain) 800 ∷ []; arrivals = 1 ∷ 2 ∷ 3 ∷ 4 ∷ 5 ∷ 6 ∷ 7 ∷ 8 ∷ []; said = 0 ∷ 0 ∷ 10 ∷ 10 ∷ 8 ∷ 0 ∷ 11 ∷ 9 ∷ []; used = 8; shown = figures 250000 Absent Absent Absent NoNet 0 0 false (Volume 600) ∷ [] }
+    ∷ record {
+      sheet = alone 250000;
+      day =
+          event 1 79 ∷ trade 2 81 q1 100 ∷ cancel 3 81 (sale 49 251001 100 plain) 300
+          ∷ cancel 4 81 (sale 49 251000 100 (codes 64 70 32 32)) 400 ∷ cancel 5 81 q2 500 ∷ cancel 6 81 q1 600
+          ∷ trade 7 81 q1 700 ∷ cancel 8 81 (sale 49 251000 99 plain) 800 ∷ [];
+      arrivals = 1 ∷ 2 ∷ 3 ∷ 4 ∷ 5 ∷ 6 ∷ 7 ∷ 8 ∷ [];
+      said = 0 ∷ 0 ∷ 10 ∷ 10 ∷ 8 ∷ 0 ∷ 11 ∷ 9 ∷ [];
+      used = 8;
+      shown = figures 250000 Absent Absent Absent NoNet 0 0 false (Volume 600) ∷ [];
+    }
     -- when events and trades are due: T S T S O Q T M T Q E M T C T E; number 1 comes before any event, number 15 after event C
-    ∷ record { sheet = alone 1000; day = trade 1 81 (sale 49 5000 1 plain) 1 ∷ event 2 83 ∷ trade 3 81 (sale 50 1000 2 plain) 3 ∷ event 4 83 ∷ event 5 79 ∷ event 6 81 ∷ trade 7 81 (sale 51 900 4 plain) 7 ∷ event 8 77 ∷ trade 9 81 (sale 52 1100 8 plain) 9 ∷ event 10 81 ∷ event 11 69 ∷ event 12 77 ∷ trade 13 81 (sale 53 1050 16 plain) 13 ∷ event 14 67 ∷ trade 15 81 (sale 54 100 32 plain) 15 ∷ event 16 69 ∷ []; arrivals = 1 ∷ 2 ∷ 3 ∷ 4 ∷ 5 ∷ 6 ∷ 7 ∷ 8 ∷ 9 ∷ 10 ∷ 11 ∷ 12 ∷ 13 ∷ 14 ∷ 15 ∷ 16 ∷ []; said = 6 ∷ 0 ∷ 0 ∷ 6 ∷ 6 ∷ 0 ∷ 0 ∷ 0 ∷ 0 ∷ 6 ∷ 0 ∷ 6 ∷ 0 ∷ 0 ∷ 6 ∷ 6 ∷ []; used = 16; shown = priced 1000 1050 1100 900 (Amount (pos 50)) 30 4 13 ∷ [] }
+    ∷ record {
+      sheet = alone 1000;
+      day =
+          trade 1 81 (sale 49 5000 1 plain) 1 ∷ event 2 83 ∷ trade 3 81 (sale 50 1000 2 plain) 3 ∷ event 4 83 ∷ event 5 79
+          ∷ event 6 81 ∷ trade 7 81 (sale 51 900 4 plain) 7 ∷ event 8 77 ∷ trade 9 81 (sale 52 1100 8 plain) 9 ∷ event 10 81
+          ∷ event 11 69 ∷ event 12 77 ∷ trade 13 81 (sale 53 1050 16 plain) 13 ∷ event 14 67
+          ∷ trade 15 81 (sale 54 100 32 plain) 15 ∷ event 16 69 ∷ [];
+      arrivals = 1 ∷ 2 ∷ 3 ∷ 4 ∷ 5 ∷ 6 ∷ 7 ∷ 8 ∷ 9 ∷ 10 ∷ 11 ∷ 12 ∷ 13 ∷ 14 ∷ 15 ∷ 16 ∷ [];
+      said = 6 ∷ 0 ∷ 0 ∷ 6 ∷ 6 ∷ 0 ∷ 0 ∷ 0 ∷ 0 ∷ 6 ∷ 0 ∷ 6 ∷ 0 ∷ 0 ∷ 6 ∷ 6 ∷ [];
+      used = 16;
+      shown = priced 1000 1050 1100 900 (Amount (pos 50)) 30 4 13 ∷ [];
+    }
     -- every line used: X of the first, a T, a C of the second, X of the second
-    ∷ record { sheet = alone 1000; day = event 1 79 ∷ trade 2 81 (sale 49 100 1 plain) 2 ∷ trade 3 81 (sale 50 200 2 plain) 3 ∷ trade 4 81 (sale 51 300 3 plain) 4 ∷ trade 5 81 (sale 52 400 4 plain) 5 ∷ trade 6 81 (sale 53 500 5 plain) 6 ∷ trade 7 81 (sale 54 600 6 plain) 7 ∷ trade 8 81 (sale 55 700 7 plain) 8 ∷ trade 9 81 (sale 56 800 8 plain) 9 ∷ trade 10 81 (sale 57 900 9 plain) 10 ∷ trade 11 81 (sale 65 1000 10 plain) 11 ∷ trade 12 81 (sale 66 1100 11 plain) 12 ∷ trade 13 81 (sale 67 1200 12 plain) 13 ∷ cancel 14 81 (sale 49 100 1 plain) 14 ∷ trade 15 81 (sale 68 1300 13 plain) 15 ∷ correct 16 81 (sale 50 200 2 plain) (sale 69 1400 14 plain) 16 ∷ cancel 17 81 (sale 50 200 2 plain) 17 ∷ []; arrivals = 1 ∷ 2 ∷ 3 ∷ 4 ∷ 5 ∷ 6 ∷ 7 ∷ 8 ∷ 9 ∷ 10 ∷ 11 ∷ 12 ∷ 13 ∷ 14 ∷ 15 ∷ 16 ∷ 17 ∷ []; said = 0 ∷ 0 ∷ 0 ∷ 0 ∷ 0 ∷ 0 ∷ 0 ∷ 0 ∷ 0 ∷ 0 ∷ 0 ∷ 0 ∷ 0 ∷ 0 ∷ 12 ∷ 12 ∷ 0 ∷ []; used = 17; shown = priced 1000 1200 1200 300 (Amount (pos 200)) 75 10 17 ∷ [] }
+    ∷ record {
+      sheet = alone 1000;
+      day =
+          event 1 79 ∷ trade 2 81 (sale 49 100 1 plain) 2 ∷ trade 3 81 (sale 50 200 2 plain) 3
+          ∷ trade 4 81 (sale 51 300 3 plain) 4 ∷ trade 5 81 (sale 52 400 4 plain) 5 ∷ trade 6 81 (sale 53 500 5 plain) 6
+          ∷ trade 7 81 (sale 54 600 6 plain) 7 ∷ trade 8 81 (sale 55 700 7 plain) 8 ∷ trade 9 81 (sale 56 800 8 plain) 9
+          ∷ trade 10 81 (sale 57 900 9 plain) 10 ∷ trade 11 81 (sale 65 1000 10 plain) 11
+          ∷ trade 12 81 (sale 66 1100 11 plain) 12 ∷ trade 13 81 (sale 67 1200 12 plain) 13
+          ∷ cancel 14 81 (sale 49 100 1 plain) 14 ∷ trade 15 81 (sale 68 1300 13 plain) 15
+          ∷ correct 16 81 (sale 50 200 2 plain) (sale 69 1400 14 plain) 16 ∷ cancel 17 81 (sale 50 200 2 plain) 17 ∷ [];
+      arrivals = 1 ∷ 2 ∷ 3 ∷ 4 ∷ 5 ∷ 6 ∷ 7 ∷ 8 ∷ 9 ∷ 10 ∷ 11 ∷ 12 ∷ 13 ∷ 14 ∷ 15 ∷ 16 ∷ 17 ∷ [];
+      said = 0 ∷ 0 ∷ 0 ∷ 0 ∷ 0 ∷ 0 ∷ 0 ∷ 0 ∷ 0 ∷ 0 ∷ 0 ∷ 0 ∷ 0 ∷ 0 ∷ 12 ∷ 12 ∷ 0 ∷ [];
+      used = 17;
+      shown = priced 1000 1200 1200 300 (Amount (pos 200)) 75 10 17 ∷ [];
+    }
     -- a size of 0
-    ∷ record { sheet = alone 250000; day = event 1 79 ∷ trade 2 81 (sale 49 251000 0 plain) 1 ∷ []; arrivals = 1 ∷ 2 ∷ []; said = 0 ∷ 5 ∷ []; used = 2; shown = figures 250000 Absent Absent Absent NoNet 0 0 false NotSet ∷ [] }
+    ∷ record {
+      sheet = alone 250000;
+      day = event 1 79 ∷ trade 2 81 (sale 49 251000 0 plain) 1 ∷ [];
+      arrivals = 1 ∷ 2 ∷ [];
+      said = 0 ∷ 5 ∷ [];
+      used = 2;
+      shown = figures 250000 Absent Absent Absent NoNet 0 0 false NotSet ∷ [];
+    }
     -- two symbols, each with its own trades
-    ∷ record { sheet = both; day = event 1 79 ∷ trade 2 81 q1 100 ∷ tradeFor efgh 3 81 (sale 50 99000 70 plain) 70 ∷ trade 4 81 (sale 51 260000 300 plain) 400 ∷ []; arrivals = 1 ∷ 2 ∷ 3 ∷ 4 ∷ []; said = 0 ∷ 0 ∷ 0 ∷ 0 ∷ []; used = 4; shown = priced 250000 260000 260000 251000 (Amount (pos 10000)) 400 2 400 ∷ figuresFor efgh 100000 (Of 99000) (Of 99000) (Of 99000) (Amount (negsuc 999)) 70 1 false (Volume 70) ∷ [] }
+    ∷ record {
+      sheet = both;
+      day =
+          event 1 79 ∷ trade 2 81 q1 100 ∷ tradeFor efgh 3 81 (sale 50 99000 70 plain) 70
+          ∷ trade 4 81 (sale 51 260000 300 plain) 400 ∷ [];
+      arrivals = 1 ∷ 2 ∷ 3 ∷ 4 ∷ [];
+      said = 0 ∷ 0 ∷ 0 ∷ 0 ∷ [];
+      used = 4;
+      shown =
+          priced 250000 260000 260000 251000 (Amount (pos 10000)) 400 2 400
+          ∷ figuresFor efgh 100000 (Of 99000) (Of 99000) (Of 99000) (Amount (negsuc 999)) 70 1 false (Volume 70) ∷ [];
+    }
     -- ABCD's trade named under EFGH; a T and an X under IJKL; ABCD's key on a T of EFGH
-    ∷ record { sheet = both; day = event 1 79 ∷ trade 2 81 q1 100 ∷ cancelFor efgh 3 81 q1 200 ∷ tradeFor ijkl 4 81 q2 300 ∷ cancelFor ijkl 5 81 q1 400 ∷ tradeFor efgh 6 81 q1 500 ∷ []; arrivals = 1 ∷ 2 ∷ 3 ∷ 4 ∷ 5 ∷ 6 ∷ []; said = 0 ∷ 0 ∷ 10 ∷ 7 ∷ 7 ∷ 11 ∷ []; used = 6; shown = priced 250000 251000 251000 251000 (Amount (pos 1000)) 100 1 100 ∷ figuresFor efgh 100000 Absent Absent Absent NoNet 0 0 false NotSet ∷ [] }
+    ∷ record {
+      sheet = both;
+      day =
+          event 1 79 ∷ trade 2 81 q1 100 ∷ cancelFor efgh 3 81 q1 200 ∷ tradeFor ijkl 4 81 q2 300
+          ∷ cancelFor ijkl 5 81 q1 400 ∷ tradeFor efgh 6 81 q1 500 ∷ [];
+      arrivals = 1 ∷ 2 ∷ 3 ∷ 4 ∷ 5 ∷ 6 ∷ [];
+      said = 0 ∷ 0 ∷ 10 ∷ 7 ∷ 7 ∷ 11 ∷ [];
+      used = 6;
+      shown =
+          priced 250000 251000 251000 251000 (Amount (pos 1000)) 100 1 100
+          ∷ figuresFor efgh 100000 Absent Absent Absent NoNet 0 0 false NotSet ∷ [];
+    }
     -- a J of EFGH that would agree with ABCD's row
-    ∷ record { sheet = both; day = event 1 79 ∷ trade 2 81 q1 100 ∷ tradeFor efgh 3 81 (sale 50 99000 70 plain) 70 ∷ summaryFor efgh 4 251000 251000 8 ∷ summaryFor efgh 5 99000 99000 9 ∷ []; arrivals = 1 ∷ 2 ∷ 3 ∷ 4 ∷ []; said = 0 ∷ 0 ∷ 0 ∷ 0 ∷ []; used = 4; shown = priced 250000 251000 251000 251000 (Amount (pos 1000)) 100 1 100 ∷ figuresFor efgh 100000 (Of 99000) (Of 99000) (Of 99000) (Amount (negsuc 999)) 70 1 false (Volume 8) ∷ [] }
+    ∷ record {
+      sheet = both;
+      day =
+          event 1 79 ∷ trade 2 81 q1 100 ∷ tradeFor efgh 3 81 (sale 50 99000 70 plain) 70 ∷ summaryFor efgh 4 251000 251000 8
+          ∷ summaryFor efgh 5 99000 99000 9 ∷ [];
+      arrivals = 1 ∷ 2 ∷ 3 ∷ 4 ∷ [];
+      said = 0 ∷ 0 ∷ 0 ∷ 0 ∷ [];
+      used = 4;
+      shown =
+          priced 250000 251000 251000 251000 (Amount (pos 1000)) 100 1 100
+          ∷ figuresFor efgh 100000 (Of 99000) (Of 99000) (Of 99000) (Amount (negsuc 999)) 70 1 false (Volume 8) ∷ [];
+    }
     -- and one that agrees with its own
-    ∷ record { sheet = both; day = event 1 79 ∷ trade 2 81 q1 100 ∷ tradeFor efgh 3 81 (sale 50 99000 70 plain) 70 ∷ summaryFor efgh 4 251000 251000 8 ∷ summaryFor efgh 5 99000 99000 9 ∷ []; arrivals = 1 ∷ 2 ∷ 3 ∷ 4 ∷ 5 ∷ []; said = 0 ∷ 0 ∷ 0 ∷ 0 ∷ 0 ∷ []; used = 5; shown = priced 250000 251000 251000 251000 (Amount (pos 1000)) 100 1 100 ∷ figuresFor efgh 100000 (Of 99000) (Of 99000) (Of 99000) (Amount (negsuc 999)) 70 1 true (Volume 9) ∷ [] }
+    ∷ record {
+      sheet = both;
+      day =
+          event 1 79 ∷ trade 2 81 q1 100 ∷ tradeFor efgh 3 81 (sale 50 99000 70 plain) 70 ∷ summaryFor efgh 4 251000 251000 8
+          ∷ summaryFor efgh 5 99000 99000 9 ∷ [];
+      arrivals = 1 ∷ 2 ∷ 3 ∷ 4 ∷ 5 ∷ [];
+      said = 0 ∷ 0 ∷ 0 ∷ 0 ∷ 0 ∷ [];
+      used = 5;
+      shown =
+          priced 250000 251000 251000 251000 (Amount (pos 1000)) 100 1 100
+          ∷ figuresFor efgh 100000 (Of 99000) (Of 99000) (Of 99000) (Amount (negsuc 999)) 70 1 true (Volume 9) ∷ [];
+    }
     ∷ []
