@@ -21,12 +21,12 @@ use Rattle.message.proofs.Fitting.{read-fits}
 use Rattle.lines.specs.declared.Line.{Line}
 use Rattle.lines.specs.Lines.{lineFrom, lineLimit, lineAt, noLine, lineIn, lineWith, usedLines, withLine, withDead}
 use Rattle.rows.specs.Rows.{newRow, reportBytes, summaryBytes, rowLimit, isOf, noRow, rowWith, rowIn, usedRows, inRow, withRow, withReport, withSummary}
-use Rattle.walk.specs.Figures.{figuresOf}
+use Rattle.walk.specs.Walking.{figuresOf}
 use Rattle.lines.specs.Changed.{LineFits}
 use Rattle.cells.specs.declared.Found.{Found}
 use Rattle.cells.specs.declared.Found.the-variants.{Nothing, At}
 use Rattle.rows.specs.declared.Row.{Row}
-use Rattle.walk.specs.declared.Figures.{Figures}
+use Rattle.figures.specs.declared.Figures.{Figures}
 use Rattle.walk.specs.Meaning.{Are}
 use Rattle.cells.proofs.Slabs.{found-below}
 use Rattle.lines.proofs.Slabs.{line-length, dead-length, line-touches, dead-touches}

@@ -15,10 +15,10 @@ use Rattle.message.specs.declared.Reading.{Reading}
 use Rattle.message.specs.Reading.{readOf}
 use Rattle.cells.specs.declared.Found.the-variants.{Nothing, At}
 use Rattle.rows.specs.declared.Row.{Row}
-use Rattle.walk.specs.declared.Figures.{Figures}
+use Rattle.figures.specs.declared.Figures.{Figures}
 use Rattle.lines.specs.Lines.{usedLines, lineLimit, lineWith}
 use Rattle.rows.specs.Rows.{usedRows, rowLimit, rowWith, rowIn, withRow}
-use Rattle.walk.specs.Figures.{figuresOf}
+use Rattle.walk.specs.Walking.{figuresOf}
 use Rattle.book.specs.declared.counters.Counters.{Counters}
 use Rattle.book.specs.declared.Said.{Said}
 use Rattle.book.specs.declared.Located.{Located}

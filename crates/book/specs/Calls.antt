@@ -10,7 +10,7 @@ use Rattle.message.specs.Reading.{readOf}
 use Rattle.message.specs.declared.Reading.{Reading}
 use Rattle.lines.specs.Lines.{usedLines, lineLimit, lineWith}
 use Rattle.rows.specs.Rows.{usedRows, rowLimit, rowWith, rowIn, withRow}
-use Rattle.walk.specs.Figures.{figuresOf}
+use Rattle.walk.specs.Walking.{figuresOf}
 use Rattle.book.specs.declared.counters.Counters.{Counters}
 use Rattle.book.specs.declared.Said.{Said}
 use Rattle.book.specs.declared.Located.{Located}

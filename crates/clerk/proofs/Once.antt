@@ -13,8 +13,8 @@ use Rattle.records.specs.declared.Record.{Record}
 use Rattle.lines.specs.declared.Line.{Line}
 use Rattle.keys.specs.Messages.{namesOld, makesNew, oldKey, newKey}
 use Rattle.table.specs.Table.{listed}
-use Rattle.walk.specs.declared.Figures.{Figures}
-use Rattle.walk.specs.Figures.{figuresOf}
+use Rattle.figures.specs.declared.Figures.{Figures}
+use Rattle.walk.specs.Walking.{figuresOf}
 use Rattle.walk.specs.Meaning.{Are}
 use Rattle.walk.proofs.Meaning.{figures-are, figures-one}
 use Rattle.show.specs.Showing.{shownOf}

@@ -15,7 +15,7 @@ use Rattle.rows.specs.declared.Summary.{Summary}
 use Rattle.rows.specs.declared.Summary.the-variants.{NoSummary, HighLow}
 use Rattle.rows.specs.declared.Reported.{Reported}
 use Rattle.rows.specs.declared.Reported.the-variants.{NotSet, Volume}
-use Rattle.walk.specs.Figures.{figuresOf}
+use Rattle.walk.specs.Walking.{figuresOf}
 use Rattle.keys.specs.Messages.{isEvent, isCorrection, isSummary, namesOld, makesNew, phaseOf, oldKey, newKey, newSale}
 use Rattle.table.specs.Table.{lowest, listed, contentTable, listTable}
 use Rattle.show.specs.declared.RowShown.{RowShown}

@@ -3,6 +3,7 @@ use crate::rooms;
 use crate::tell;
 use book::Said;
 use book::counters::Counters;
+use figures::Price;
 use libc::STDOUT_FILENO;
 use numbers::number4;
 use numbers::number8;
@@ -10,7 +11,6 @@ use octets::run;
 use rows::Reported;
 use show::Net;
 use show::RowShown;
-use walk::Price;
 ghost use Rattle.io.specs.Counts.{Counts};
 
 pub fn list(c: Counters, rows: &mut [u8], lines: &[u8], code: &[u8]) -> Counters {

@@ -7,10 +7,10 @@ use denote.Laws.{Is}
 use denote.Enum.Declared.{row}
 use denote.Enum.Laws.{owed, Fields, spellss}
 use denote.Enum.Declared.{variants}
-use Rattle.walk.specs.declared.Price.{Price}
-use Rattle.walk.specs.declared.Price.the-variants.{Absent, Of}
-use Rattle.walk.proofs.Price as price
-use Rattle.walk.proofs.Price.Laws as price-laws
+use Rattle.figures.specs.declared.Price.{Price}
+use Rattle.figures.specs.declared.Price.the-variants.{Absent, Of}
+use Rattle.figures.proofs.Price as price
+use Rattle.figures.proofs.Price.Laws as price-laws
 use Rattle.show.specs.declared.Net.{Net}
 use Rattle.show.specs.declared.Net.the-variants.{NoNet, Amount}
 use Rattle.show.proofs.Net as net

@@ -6,8 +6,8 @@ use lib.ListN.{length}
 use lib.Signed.{mag}
 use Rattle.rows.specs.declared.Reported.{Reported}
 use Rattle.rows.specs.declared.Reported.the-variants.{NotSet, Volume}
-use Rattle.walk.specs.declared.Price.{Price}
-use Rattle.walk.specs.declared.Price.the-variants.{Absent, Of}
+use Rattle.figures.specs.declared.Price.{Price}
+use Rattle.figures.specs.declared.Price.the-variants.{Absent, Of}
 use Rattle.show.specs.declared.Net.{Net}
 use Rattle.show.specs.declared.Net.the-variants.{NoNet, Amount}
 use Rattle.show.specs.declared.RowShown.{RowShown}

@@ -17,9 +17,10 @@ use Rattle.conditions.specs.declared.Marks.{Marks}
 use Rattle.conditions.specs.Conditions.{conditionMarks}
 use Rattle.lines.specs.Lines.{lineFrom}
 use Rattle.lines.specs.declared.Line.{Line}
-use Rattle.walk.specs.declared.Figures.{Figures}
+use Rattle.figures.specs.declared.Figures.{Figures}
 use Rattle.walk.specs.Low.{low}
-use Rattle.walk.specs.Figures.{counts, dealt, sold, tally, fold}
+use Rattle.figures.specs.Figures.{sold}
+use Rattle.walk.specs.Walking.{counts, dealt, tally, fold}
 
 -- eight bytes, as two numbers of four
 pub low-eight : (m : List ℕ) (at : ℕ)

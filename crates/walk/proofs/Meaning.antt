@@ -13,13 +13,14 @@ use lib.ListN.{length, length-append}
 use Rattle.octets.specs.Run.{tab, Bytes}
 use Rattle.numbers.proofs.Laws.{be-below}
 use Rattle.lines.specs.declared.Line.{Line}
-use Rattle.walk.specs.declared.Price.{Price}
-use Rattle.walk.specs.declared.Price.the-variants.{Absent, Of}
-use Rattle.walk.specs.declared.Last.{Last}
-use Rattle.walk.specs.declared.Last.the-variants.{NoLast, Trade}
-use Rattle.walk.specs.declared.Figures.{Figures}
+use Rattle.figures.specs.declared.Price.{Price}
+use Rattle.figures.specs.declared.Price.the-variants.{Absent, Of}
+use Rattle.figures.specs.declared.Last.{Last}
+use Rattle.figures.specs.declared.Last.the-variants.{NoLast, Trade}
+use Rattle.figures.specs.declared.Figures.{Figures}
 use Rattle.lines.specs.Lines.{lineFrom, lineAt, lineLimit, usedLines}
-use Rattle.walk.specs.Figures.{counts, raise, lower, later, noFigures, sold, dealt, tally, fold, figuresOf}
+use Rattle.figures.specs.Figures.{raise, lower, later, noFigures, sold}
+use Rattle.walk.specs.Walking.{counts, dealt, tally, fold, figuresOf}
 use Rattle.walk.specs.Meaning.{keep, liveOf, bearsFirst, bearsSecond, firstMark, secondMark, sizes, Extreme, IsExtreme, IsHigh, IsLow, Newest, IsLast, Are}
 use Rattle.lines.proofs.Slabs.{used-lines-length}
 

@@ -12,8 +12,8 @@ use Rattle.octets.specs.Run.{Bytes}
 use Rattle.numbers.specs.Number.{be, digits}
 use Rattle.numbers.proofs.Trips.{digits-part}
 use Rattle.octets.proofs.Trips.{whole}
-use Rattle.walk.specs.declared.Price.{Price}
-use Rattle.walk.specs.declared.Price.the-variants.{Absent, Of}
+use Rattle.figures.specs.declared.Price.{Price}
+use Rattle.figures.specs.declared.Price.the-variants.{Absent, Of}
 use Rattle.rows.specs.declared.Reported.{Reported}
 use Rattle.rows.specs.declared.Reported.the-variants.{NotSet, Volume}
 use Rattle.show.specs.declared.Net.{Net}

@@ -2,8 +2,8 @@
 -- Assumes nothing.
 use mathlib.Core.Path.{ap}
 use native.Mathlib.Omega.{arith}
-use Rattle.walk.specs.declared.Figures.{Figures}
-use Rattle.walk.specs.Figures.{sold}
+use Rattle.figures.specs.declared.Figures.{Figures}
+use Rattle.figures.specs.Figures.{sold}
 use Rattle.walk.proofs.Laws.{dealt-read}
 use borrow.Author.Needs.{needs}
 use Rattle.walk.proofs.with_line.Statement.{statement}

@@ -1,4 +1,4 @@
--- `print::figures::put_net` meets its contract.
+-- `print::columns::put_net` meets its contract.
 -- Assumes nothing.
 use mathlib.Core.Path.{ap, sym}
 use mathlib.Core.List.{_∷_}
@@ -8,8 +8,8 @@ use Rattle.show.specs.declared.Net.{Net}
 use Rattle.print.specs.Texts.{netText}
 use Rattle.print.proofs.Laws.{byte, then, retold, net-figure}
 use borrow.Author.Needs.{needs}
-use Rattle.print.proofs.figures.put_net.Statement.{statement}
-use Rattle.print.proofs.figures.put_net.Tie as tie
+use Rattle.print.proofs.columns.put_net.Statement.{statement}
+use Rattle.print.proofs.columns.put_net.Tie as tie
 
 enum-told : tie.Need-enum-told
 enum-told c = search needs

@@ -1,4 +1,4 @@
--- `print::figures::put_named` meets its contract.
+-- `print::columns::put_named` meets its contract.
 -- Assumes nothing.
 use mathlib.Core.Path.{refl}
 use Prim.Native.Nat.{_+_}
@@ -7,8 +7,8 @@ use lib.ListN.{length}
 use Rattle.decimal.proofs.Numbers.{decimal-short}
 use Rattle.print.proofs.Laws.{run, then, figure}
 use borrow.Author.Needs.{needs}
-use Rattle.print.proofs.figures.put_named.Statement.{statement}
-use Rattle.print.proofs.figures.put_named.Tie as tie
+use Rattle.print.proofs.columns.put_named.Statement.{statement}
+use Rattle.print.proofs.columns.put_named.Tie as tie
 
 paste-requires : tie.Need-paste-requires
 paste-requires c κs = search needs

@@ -1,9 +1,9 @@
--- `print::figures::put_counts` meets its contract.
+-- `print::columns::put_counts` meets its contract.
 -- Assumes nothing.
 use Rattle.print.proofs.Laws.{then}
 use borrow.Author.Needs.{needs}
-use Rattle.print.proofs.figures.put_counts.Statement.{statement}
-use Rattle.print.proofs.figures.put_counts.Tie as tie
+use Rattle.print.proofs.columns.put_counts.Statement.{statement}
+use Rattle.print.proofs.columns.put_counts.Tie as tie
 
 slice-aggregate-put-named : tie.Need-slice-aggregate-put-named
 slice-aggregate-put-named c = search needs

@@ -1,4 +1,4 @@
--- `print::figures::put_reported` meets its contract.
+-- `print::columns::put_reported` meets its contract.
 -- Assumes nothing.
 use mathlib.Core.Path.{ap, sym}
 use mathlib.Core.List.{_∷_}
@@ -7,8 +7,8 @@ use Rattle.rows.specs.declared.Reported.{Reported}
 use Rattle.print.specs.Texts.{reportedText}
 use Rattle.print.proofs.Laws.{retold}
 use borrow.Author.Needs.{needs}
-use Rattle.print.proofs.figures.put_reported.Statement.{statement}
-use Rattle.print.proofs.figures.put_reported.Tie as tie
+use Rattle.print.proofs.columns.put_reported.Statement.{statement}
+use Rattle.print.proofs.columns.put_reported.Tie as tie
 
 enum-told : tie.Need-enum-told
 enum-told c = search needs

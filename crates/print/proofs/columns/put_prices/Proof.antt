@@ -1,9 +1,9 @@
--- `print::figures::put_prices` meets its contract.
+-- `print::columns::put_prices` meets its contract.
 -- Assumes nothing.
 use Rattle.print.proofs.Laws.{then}
 use borrow.Author.Needs.{needs}
-use Rattle.print.proofs.figures.put_prices.Statement.{statement}
-use Rattle.print.proofs.figures.put_prices.Tie as tie
+use Rattle.print.proofs.columns.put_prices.Statement.{statement}
+use Rattle.print.proofs.columns.put_prices.Tie as tie
 
 put-price-requires : tie.Need-put-price-requires
 put-price-requires c κs = search needs

@@ -1,9 +1,9 @@
--- `walk::latest` meets its contract.
+-- `figures::latest` meets its contract.
 -- Assumes nothing.
 use borrow.Author.Tests.{lt-ltb, le-ltb}
 use borrow.Author.Needs.{needs}
-use Rattle.walk.proofs.latest.Statement.{statement}
-use Rattle.walk.proofs.latest.Tie as tie
+use Rattle.figures.proofs.latest.Statement.{statement}
+use Rattle.figures.proofs.latest.Tie as tie
 
 enum-told : tie.Need-enum-told
 enum-told c = search needs

@@ -1,16 +1,16 @@
--- `print::figures::put_price` meets its contract.
+-- `print::columns::put_price` meets its contract.
 -- Assumes nothing.
 use mathlib.Core.Path.{ap, sym}
 use mathlib.Core.List.{_∷_}
 use Prim.Native.Nat.{_+_}
 use native.Mathlib.Omega.{arith}
-use Rattle.walk.specs.declared.Price.{Price}
+use Rattle.figures.specs.declared.Price.{Price}
 use Rattle.decimal.proofs.Amount.{amount-short}
 use Rattle.print.specs.Texts.{priceText}
 use Rattle.print.proofs.Laws.{byte, then, retold, figure}
 use borrow.Author.Needs.{needs}
-use Rattle.print.proofs.figures.put_price.Statement.{statement}
-use Rattle.print.proofs.figures.put_price.Tie as tie
+use Rattle.print.proofs.columns.put_price.Statement.{statement}
+use Rattle.print.proofs.columns.put_price.Tie as tie
 
 enum-told : tie.Need-enum-told
 enum-told c = search needs

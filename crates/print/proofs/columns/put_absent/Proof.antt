@@ -1,11 +1,11 @@
--- `print::figures::put_absent` meets its contract.
+-- `print::columns::put_absent` meets its contract.
 -- Assumes nothing.
 use mathlib.Core.Path.{refl}
 use lib.Dec.{lit≤}
 use borrow.Author.Needs.{needs}
 use Rattle.print.proofs.Laws.{run}
-use Rattle.print.proofs.figures.put_absent.Statement.{statement}
-use Rattle.print.proofs.figures.put_absent.Tie as tie
+use Rattle.print.proofs.columns.put_absent.Statement.{statement}
+use Rattle.print.proofs.columns.put_absent.Tie as tie
 
 slice-aggregate-paste : tie.Need-slice-aggregate-paste
 slice-aggregate-paste c = refl
