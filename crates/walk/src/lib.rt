@@ -17,7 +17,7 @@ ghost use lib.Dec.{eqb};
 ghost use lib.ListN.{length, getD};
 ghost use Rattle.octets.specs.Run.{part};
 ghost use Rattle.lines.specs.Lines.{lineFrom, usedLines};
-ghost use Rattle.walk.specs.Low.{low};
+ghost use Rattle.numbers.specs.Low.{low};
 ghost use Rattle.figures.specs.Figures.{sold};
 ghost use Rattle.walk.specs.Walking.{dealt, figuresOf};
 
@@ -38,15 +38,6 @@ fn with_sale(t: Figures, price: u32, size: u32, place: u32, marks: Marks) -> Fig
     }
 }
 
-// The number of the eight bytes from a place on, the first the lowest.
-fn eight(s: &[u8], at: usize) -> u64
-    requires { ⌜ at + 8 ≤ length (now s) ⌝ }
-    ensures { λ r. ⌜ r ≡ low (part (now (s .entry)) at 8) ⌝ }
-{
-    numbers::weigh(s[at + 7], s[at + 6], s[at + 5], s[at + 4]) * 4294967296
-        + numbers::weigh(s[at + 3], s[at + 2], s[at + 1], s[at])
-}
-
 // Whether the line whose cell starts at an offset is live and of the symbol, which is given as the number of its eight bytes.
 fn is_counted(lines: &[u8], at: usize, symbol: u64) -> bool
     requires { ⌜ at + 40 ≤ length (now lines) ⌝ }
@@ -55,7 +46,7 @@ fn is_counted(lines: &[u8], at: usize, symbol: u64) -> bool
     if lines[at + LIVE] != 1 {
         return false;
     }
-    eight(lines, at + SYMBOL) == symbol
+    numbers::low8(lines, at + SYMBOL) == symbol
 }
 
 // The figures with the trade of the line whose cell starts at an offset.
@@ -84,7 +75,7 @@ pub fn walk(lines: &[u8], used: usize, symbol: [u8; 8]) -> Figures
     ensures { λ r. ⌜ r ≡ figuresOf symbol (usedLines (now (lines .entry)) used) ⌝ }
 {
     let n = numbers::lesser(used, lines::limit(lines.len()));
-    let name = eight(&symbol, 0);
+    let name = numbers::low8(&symbol, 0);
     let mut t = Figures {
         volume: 0,
         count: 0,
