@@ -20,7 +20,8 @@ use Rattle.decimal.specs.Decimal.{digitCount, lowest, decimal}
 use Rattle.decimal.specs.Letters.{letters}
 use Rattle.decimal.specs.Amount.{amountText}
 use Rattle.print.specs.Texts.{priceText, netText, countText, reportedText, line, headerText, rowText, closingText, stopText}
-use Rattle.print.specs.Fits.{PriceFits, NetFits, ReportedFits, RowFits, headerLongest, rowLongest, closingLongest, stopLongest}
+use Rattle.show.specs.Fits.{NetFits}
+use Rattle.print.specs.Fits.{PriceFits, ReportedFits, RowFits, headerLongest, rowLongest, closingLongest, stopLongest}
 use Rattle.decimal.proofs.Numbers.{decimal-most, decimal-short}
 use Rattle.decimal.proofs.Amount.{amount-most, signed-short}
 use Rattle.print.proofs.Padding.{unpadded-short}

@@ -6,7 +6,7 @@ use mathlib.Core.Bool.{true, false}
 use native.Mathlib.Omega.{arith}
 use lib.IntN.{ℤ, pos, negsuc, natAbs}
 use lib.Signed.{mag, ltZ}
-use Rattle.decimal.proofs.Signed.{held, left, held-is, size-held, not-below, not-above}
+use Rattle.numbers.proofs.Signed.{held, left, held-is, size-held, not-below, not-above}
 use Rattle.words.specs.Words.{signedWord}
 
 -- below zero a number's size and its word make 2^64, and the word is none of a number from zero on

@@ -20,7 +20,8 @@ use Rattle.show.specs.declared.Net.{Net}
 use Rattle.show.specs.declared.Net.the-variants.{NoNet, Amount}
 use Rattle.show.specs.declared.RowShown.{RowShown}
 use Rattle.words.specs.Words.{priceMark, priceWord, signedWord, netMark, netWord, reportedMark, reportedWord, rowWords}
-use Rattle.words.specs.Fits.{NetFits, RowFits}
+use Rattle.show.specs.Fits.{NetFits}
+use Rattle.words.specs.Fits.{RowFits}
 
 -- ---- figure by figure
 

@@ -2,7 +2,8 @@
 -- Assumes nothing.
 use lib.Dec.{lit≤}
 use Rattle.print.specs.Fits.{RowFits}
-use Rattle.print.proofs.Fitting.{price-good, net-good, reported-good}
+use Rattle.show.proofs.Fitting.{net-good}
+use Rattle.print.proofs.Fitting.{price-good, reported-good}
 use Rattle.print.proofs.Laws.{reach, from-start, row-put}
 use borrow.Author.Needs.{needs}
 use Rattle.print.proofs.row.Statement.{statement}

@@ -8,7 +8,7 @@ use mir.Val.{Fits}
 use Rattle.octets.proofs.Trips.{whole}
 use Rattle.words.specs.Words as W
 use Rattle.words.specs.Fits.{RowFits}
-use Rattle.words.proofs.Fitting.{net-good}
+use Rattle.show.proofs.Fitting.{net-good}
 use borrow.Author.Needs.{needs}
 use Rattle.words.proofs.put_row.Statement.{statement}
 use Rattle.words.proofs.put_row.Tie as tie

@@ -5,11 +5,11 @@ use mir.Val.{Val}
 use denote.Laws.{Is}
 use denote.Enum.Declared.{row, variants}
 use denote.Enum.Laws.{owed, Fields, spellss}
 use Rattle.show.specs.declared.Net.{Net}
 use Rattle.show.specs.declared.Net.the-variants.{NoNet, Amount}
 use Rattle.show.proofs.Net as net
 use Rattle.show.proofs.Net.Laws as net-laws
-use Rattle.words.specs.Fits.{NetFits}
+use Rattle.show.specs.Fits.{NetFits}
 
 net-told : (n : Net) → Fields (variants net.the-type) (spellss (net.the-type .parts) net-laws.the-laws) (net.the-type .to n) → NetFits n
 net-told NoNet h = tt
