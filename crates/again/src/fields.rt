@@ -1,5 +1,4 @@
 // A record's fields by name and value.
-use crate::tell;
 use records::Record;
 use records::Sale;
 
@@ -14,56 +13,56 @@ pub fn tell(r: Record) {
 }
 
 fn head(r: Record) {
-    tell::words(b"\ntype ");
-    tell::letter(r.letter);
-    tell::words(b" time ");
-    tell::number(r.time as u64);
-    tell::words(b" event ");
-    tell::letter(r.event);
+    telling::words(b"\ntype ");
+    telling::letter(r.letter);
+    telling::words(b" time ");
+    telling::number(r.time as u64);
+    telling::words(b" event ");
+    telling::letter(r.event);
 }
 
 fn place(r: Record) {
     let symbol = r.symbol;
-    tell::words(b"\ncentre ");
-    tell::letter(r.centre);
-    tell::words(b" symbol ");
-    tell::text(&symbol);
-    tell::words(b" class ");
-    tell::letter(r.class);
+    telling::words(b"\ncentre ");
+    telling::letter(r.centre);
+    telling::words(b" symbol ");
+    telling::text(&symbol);
+    telling::words(b" class ");
+    telling::letter(r.class);
 }
 
 // A sale, its names after a mark that tells the new one from the original.
 fn sale(s: Sale, mark: &[u8]) {
     let control = s.control;
     name(b"\n", mark, b"control ");
-    tell::text(&control);
+    telling::text(&control);
     name(b" ", mark, b"price ");
-    tell::number(s.price as u64);
+    telling::number(s.price as u64);
     name(b" ", mark, b"size ");
-    tell::number(s.size as u64);
+    telling::number(s.size as u64);
     codes(s, mark);
 }
 
 fn codes(s: Sale, mark: &[u8]) {
     let condition = s.condition;
     name(b" ", mark, b"condition ");
-    tell::text(&condition);
+    telling::text(&condition);
 }
 
 fn name(before: &[u8], mark: &[u8], field: &[u8]) {
-    tell::words(before);
-    tell::words(mark);
-    tell::words(field);
+    telling::words(before);
+    telling::words(mark);
+    telling::words(field);
 }
 
 fn day(r: Record) {
-    tell::words(b"\nhigh ");
-    tell::number(r.high as u64);
-    tell::words(b" low ");
-    tell::number(r.low as u64);
-    tell::words(b" close ");
-    tell::number(r.close as u64);
-    tell::words(b" consolidated ");
-    tell::number(r.consolidated);
-    tell::words(b"\n");
+    telling::words(b"\nhigh ");
+    telling::number(r.high as u64);
+    telling::words(b" low ");
+    telling::number(r.low as u64);
+    telling::words(b" close ");
+    telling::number(r.close as u64);
+    telling::words(b" consolidated ");
+    telling::number(r.consolidated);
+    telling::words(b"\n");
 }
