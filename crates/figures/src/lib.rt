@@ -52,7 +52,8 @@ pub fn lowered(h: Price, marked: bool, p: u32) -> Price
     }
 }
 
-// The last after a trade of a place and a price: a marked trade takes its place if it stands behind all marked ones before it.
+// The last after a trade of a place and a price. A marked trade becomes the last if its place is greater than that of
+// the last so far.
 pub fn latest(l: Last, marked: bool, place: u32, price: u32) -> Last
     ensures { λ r. ⌜ r ≡ cond marked (later l place price) l ⌝ }
 {

@@ -3,14 +3,15 @@
 use mathlib.Core.Path.{_≡_, refl, ap, sym, _∙_}
 use mathlib.Core.Bool.{Bool, true, false, true≢false}
 use mathlib.Core.List.{List}
-use Prim.Native.Nat.{ℕ, zero, suc, _+_, _*_, _<_}
+use Prim.Native.Nat.{ℕ, zero, suc, _+_, _*_, _-_, _≤_, _<_}
 use native.Mathlib.Nat.{add-zero}
 use native.Mathlib.Omega.{arith}
 use borrow.Author.Tests.{ne-eqb, eq-eqb}
 use lib.Dec.{eqb}
-use lib.ListN.{length, getD}
+use lib.ListN.{length, take, drop, getD}
 use Rattle.octets.specs.Run.{tab, part, past, same, Bytes}
-use Rattle.octets.proofs.Trips.{same-is, whole}
+use Rattle.octets.proofs.Laws.{part-length}
+use Rattle.octets.proofs.Trips.{same-is, whole, lent}
 use Rattle.numbers.specs.Low.{low}
 
 -- eight bytes, as two numbers of four
@@ -21,27 +22,15 @@ pub low-eight : (m : List ℕ) (at : ℕ)
 unfolding low part tab
 low-eight m at = rw (add-zero at) (omega arith)
 
--- four bytes, i places past a place
-pub low-four : (m : List ℕ) (at i : ℕ)
-    → getD m (at + (i + 3)) 0 * 16777216 + getD m (at + (i + 2)) 0 * 65536 + getD m (at + (i + 1)) 0 * 256 + getD m (at + i) 0
-    ≡ low (part m (at + i) 4)
-unfolding low part tab
-low-four m at i =
-    let e : at + (i + 1) ≡ at + i + 1 = omega arith in
-    let f : at + (i + 2) ≡ at + i + 2 = omega arith in
-    let g : at + (i + 3) ≡ at + i + 3 = omega arith in
-    rw (e, f, g, add-zero (at + i)) (omega arith)
-
--- eight bytes, as the number of the last four and that of the first four
-pub low-join : (m : List ℕ) (at : ℕ) → low (part m (at + 4) 4) * 4294967296 + low (part m (at + 0) 4) ≡ low (part m at 8)
-low-join m at =
-    let a : at + 0 ≡ at = add-zero at in
-    let first : getD m (at + 3) 0 * 16777216 + getD m (at + 2) 0 * 65536 + getD m (at + 1) 0 * 256 + getD m at 0 ≡ low (part m at 4)
-    = rw a at (low-four m at 0) in
-    rw a (omega (arith, low-eight m at, low-four m at 4, first))
+-- eight bytes lent to a call, from the part's first byte on
+pub low-lent : (m : List ℕ) (at : ℕ) → at + 8 ≤ length m → low (part (take (at + 8 - at) (drop at m)) 0 8) ≡ low (part m at 8)
+low-lent m at h =
+    let e : take (at + 8 - at) (drop at m) ≡ part m at 8 = lent m at (at + 8) 8 (omega arith) h in
+    ap (λ (xs : List ℕ). low (part xs 0 8)) e ∙ ap low (whole (part m at 8) 8 (part-length m at 8))
 
 -- nothing of bytes is lost in their number
-low-told : (f g : ℕ → ℕ) → ((i : ℕ) → f i < 256) → ((i : ℕ) → g i < 256) → (i n : ℕ) → low (tab f i n) ≡ low (tab g i n) → tab f i n ≡ tab g i n
+low-told : (f g : ℕ → ℕ) → ((i : ℕ) → f i < 256) → ((i : ℕ) → g i < 256) → (i n : ℕ) → low (tab f i n) ≡ low (tab g i n)
+    → tab f i n ≡ tab g i n
 unfolding low tab
 low-told f g b c i zero e = refl
 low-told f g b c i (suc n) e =

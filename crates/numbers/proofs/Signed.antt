@@ -45,7 +45,8 @@ pub left-fits : (z : ℤ) → mag z < 2 ^ 63 → ltZ (held z) (pos 0) ≡ true �
 left-fits (pos a) h t = absurd (not-below a (rw (held-is (pos a) h) at t))
 left-fits (negsuc a) h t = subst⁻¹ (λ (y : ℤ). SFits w64 y) (ap left (held-is (negsuc a) h) ∙ left-is a) (record { sfits = h })
 
-pub left-casts : (z : ℤ) → mag z < 2 ^ 63 → ltZ (held z) (pos 0) ≡ true → T (nonNeg (held (left (held z)))) × Fits w64 (natAbs (held (left (held z))))
+pub left-casts : (z : ℤ) → mag z < 2 ^ 63 → ltZ (held z) (pos 0) ≡ true
+    → T (nonNeg (held (left (held z)))) × Fits w64 (natAbs (held (left (held z))))
 left-casts (pos a) h t = absurd (not-below a (rw (held-is (pos a) h) at t))
 left-casts (negsuc a) h t = subst⁻¹ (λ (y : ℤ). T (nonNeg y) × Fits w64 (natAbs y)) (size-held a h) (tt, record { fits = omega (arith, h) })
 

@@ -1,5 +1,5 @@
 // Words, numbers, texts and bytes on standard output, for the programs that tell what the library answers.
-// No contract can say what is written there: each function here is proved to be safe and to end, and it returns nothing.
+// No contract can say what is written there. Each function is proved to be safe and to end, and it returns nothing.
 use libc::STDOUT_FILENO;
 
 // The words as they stand.

@@ -38,15 +38,18 @@ fn with_sale(t: Figures, price: u32, size: u32, place: u32, marks: Marks) -> Fig
     }
 }
 
-// Whether the line whose cell starts at an offset is live and of the symbol, which is given as the number of its eight bytes.
+// Whether the line whose cell starts at an offset is live and of the symbol, which is given as the number of its
+// eight bytes.
 fn is_counted(lines: &[u8], at: usize, symbol: u64) -> bool
     requires { ⌜ at + 40 ≤ length (now lines) ⌝ }
-    ensures { λ r. ⌜ r ≡ (eqb (getD (now (lines .entry)) (at + 39) 0) 1 && eqb (low (part (now (lines .entry)) (at + 11) 8)) symbol) ⌝ }
+    ensures { λ r. ⌜ r ≡ (eqb (getD (now (lines .entry)) (at + 39) 0) 1
+        && eqb (low (part (now (lines .entry)) (at + 11) 8)) symbol) ⌝ }
 {
     if lines[at + LIVE] != 1 {
         return false;
     }
-    numbers::low8(lines, at + SYMBOL) == symbol
+    let from = at + SYMBOL;
+    numbers::low8(&lines[from..from + 8], 0) == symbol
 }
 
 // The figures with the trade of the line whose cell starts at an offset.
