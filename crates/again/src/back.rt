@@ -5,11 +5,13 @@ use records::Record;
 // What a lent space holds before a record is written.
 pub const MARKER: u8 = 0xee;
 
+// Reads a message, and writes the record back into a space.
 pub fn again(message: &[u8], space: &mut [u8]) {
     let r = read(message);
     write(r, space);
 }
 
+// Reads a message, and tells its bytes, the answer and the record.
 pub fn read(message: &[u8]) -> Record {
     telling::words(b"given ");
     telling::hex(message);
@@ -22,6 +24,7 @@ pub fn read(message: &[u8]) -> Record {
     found
 }
 
+// Writes a record, and tells the answer and the space's bytes.
 pub fn write(r: Record, space: &mut [u8]) {
     let a = message::write(r, space);
     telling::words(b"write ");

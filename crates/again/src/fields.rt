@@ -2,6 +2,7 @@
 use records::Record;
 use records::Sale;
 
+// Every field of a record, by its name.
 pub fn tell(r: Record) {
     head(r);
     place(r);

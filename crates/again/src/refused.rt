@@ -3,6 +3,7 @@ use crate::back;
 use crate::sound;
 use records::Record;
 
+// Messages that the reader refuses.
 pub fn reads() {
     // The last byte of a whole report has no place here.
     let mut cut = [0u8; 44];
@@ -16,6 +17,7 @@ pub fn reads() {
     back::read(&message);
 }
 
+// Records and spaces that the writer refuses.
 pub fn writes() {
     let r = report();
     telling::words(b"T into a space one byte short\n");

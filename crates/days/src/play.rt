@@ -12,6 +12,7 @@ use show::Net;
 use show::RowShown;
 ghost use Rattle.io.specs.Counts.{Counts};
 
+// A listing: the symbol and the close that the code has, handed to the book.
 pub fn list(c: Counters, rows: &mut [u8], lines: &[u8], code: &[u8]) -> Counters {
     let said = book::list(c, rows, lines, symbol(code), number4(code, 9));
     after(said, rows, lines)
@@ -23,6 +24,7 @@ fn symbol(code: &[u8]) -> [u8; 8] {
     symbol
 }
 
+// A delivery: the number and the message that the code has, handed to the book. A code without a number does nothing.
 pub fn deliver(c: Counters, rows: &mut [u8], lines: &mut [u8], code: &[u8]) -> Counters {
     if code.len() < 9 {
         return c;
@@ -76,6 +78,7 @@ pub fn state(c: Counters, rows: &[u8], lines: &[u8]) {
     telling::words(b"\n");
 }
 
+// The row of a symbol, with the answer to its reading.
 pub fn row(c: Counters, rows: &[u8], lines: &[u8], code: &[u8]) {
     let said = book::row(c, rows, lines, symbol(code));
     let a = said.answer;

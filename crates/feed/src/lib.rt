@@ -21,9 +21,12 @@ pub struct Fed {
 // Plays the first n bytes of a piece, or all where it has fewer.
 pub fn feed(c: Counters, rows: &mut [u8], lines: &mut [u8], piece: &mut [u8], n: usize) -> Fed
     ensures said { λ r. ⌜ r ≡ fedOf (stateOf c (now (rows .entry)) (now (lines .entry))) n (now (piece .entry)) ⌝ }
-    ensures rows { λ r. ⌜ now (rows .exit) ≡ playRows (stateOf c (now (rows .entry)) (now (lines .entry))) (take n (now (piece .entry))) ⌝ }
-    ensures lines { λ r. ⌜ now (lines .exit) ≡ playLines (stateOf c (now (rows .entry)) (now (lines .entry))) (take n (now (piece .entry))) ⌝ }
-    ensures piece { λ r. ⌜ now (piece .exit) ≡ keptIn (stateOf c (now (rows .entry)) (now (lines .entry))) n (now (piece .entry)) ⌝ }
+    ensures rows { λ r. ⌜ now (rows .exit)
+        ≡ playRows (stateOf c (now (rows .entry)) (now (lines .entry))) (take n (now (piece .entry))) ⌝ }
+    ensures lines { λ r. ⌜ now (lines .exit)
+        ≡ playLines (stateOf c (now (rows .entry)) (now (lines .entry))) (take n (now (piece .entry))) ⌝ }
+    ensures piece { λ r. ⌜ now (piece .exit)
+        ≡ keptIn (stateOf c (now (rows .entry)) (now (lines .entry))) n (now (piece .entry)) ⌝ }
 {
     let k = lesser(n, piece.len());
     let p = tape::play(c, rows, lines, &piece[..k]);

@@ -17,14 +17,17 @@ use Rattle.rows.proofs.Reported as reported
 use Rattle.rows.proofs.Reported.Laws as reported-laws
 use Rattle.print.specs.Fits.{PriceFits, ReportedFits}
 
-price-told : (p : Price) → Fields (variants price.the-type) (spellss (price.the-type .parts) price-laws.the-laws) (price.the-type .to p) → PriceFits p
+price-told : (p : Price)
+    → Fields (variants price.the-type) (spellss (price.the-type .parts) price-laws.the-laws) (price.the-type .to p) → PriceFits p
 price-told Absent h = tt
 price-told (Of x) h = omega (arith, h)
 
 pub price-good : (p : Price) (vs : List Val) → Is (row price.the-type) p vs → PriceFits p
 price-good p vs h = price-told p (owed price.the-type price-laws.the-laws p vs h)
 
-reported-told : (r : Reported) → Fields (variants reported.the-type) (spellss (reported.the-type .parts) reported-laws.the-laws) (reported.the-type .to r) → ReportedFits r
+reported-told : (r : Reported)
+    → Fields (variants reported.the-type) (spellss (reported.the-type .parts) reported-laws.the-laws) (reported.the-type .to r)
+    → ReportedFits r
 reported-told NotSet h = tt
 reported-told (Volume v) h = omega (arith, h)
 

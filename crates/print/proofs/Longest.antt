@@ -45,7 +45,9 @@ reported-most (Volume v) h = count-longest v h
 
 -- ---- lines
 
-line-length : (s a b c d e f g : List ℕ) → length (line s (a ∷ b ∷ c ∷ d ∷ e ∷ f ∷ g ∷ [])) ≡ length s + length a + length b + length c + length d + length e + length f + length g + 8
+line-length : (s a b c d e f g : List ℕ)
+    → length (line s (a ∷ b ∷ c ∷ d ∷ e ∷ f ∷ g ∷ []))
+    ≡ length s + length a + length b + length c + length d + length e + length f + length g + 8
 line-length s a b c d e f g = simp length-append (omega arith)
 
 pub row-longest : (w : RowShown) → RowFits w → length (rowText w) ≤ rowLongest
@@ -119,7 +121,8 @@ refused-most t w h k = go (ltb t w) refl
     go true e = both-most t (w - 1 - t) (omega (arith, ltb-true t w e))
     go false e = both-most t (w - 1 - t) (omega (arith, ltb-false t w e))
 
-closing-length : (a b c d e f : List ℕ) → length (line a (b ∷ c ∷ d ∷ e ∷ f ∷ [])) ≡ length a + length b + length c + length d + length e + length f + 6
+closing-length : (a b c d e f : List ℕ)
+    → length (line a (b ∷ c ∷ d ∷ e ∷ f ∷ [])) ≡ length a + length b + length c + length d + length e + length f + 6
 closing-length a b c d e f = simp length-append (omega arith)
 
 pub closing-longest : (t w : ℕ) → t < 2 ^ 64 → w < 2 ^ 64 → length (closingText t w) ≤ closingLongest

@@ -34,7 +34,8 @@ rowOf symbol close last high low net volume count reported =
     }
 
 -- the whole output of day W
-pub w-printed : headerText ++ (rowText (rowOf "ABCD    " 250000 (Of 252500) (Of 252500) (Of 252500) (Amount (pos 2500)) 170 2 (Volume 600)) ++ closingText 6 7)
+pub w-printed : headerText ++
+    (rowText (rowOf "ABCD    " 250000 (Of 252500) (Of 252500) (Of 252500) (Amount (pos 2500)) 170 2 (Volume 600)) ++ closingText 6 7)
     ≡ letters "SYMBOL LAST HIGH LOW NET VOLUME TRADES CONSOL\nABCD 25.2500 25.2500 25.2500 +0.2500 170 2 600\nTAKEN 6 REFUSED 0 WANTED 7\n"
 unfolding headerText rowText closingText amountText decimal lowest digitCount
 w-printed = refl
@@ -86,6 +87,18 @@ samples = refl
 
 -- neither the close nor whether the row agrees is printed
 pub unprinted : (w : RowShown) (close : ℕ) (agrees : Bool)
-    → rowText (record { symbol = w .symbol; close = close; last = w .last; high = w .high; low = w .low; net = w .net; volume = w .volume; count = w .count; agrees = agrees; reported = w .reported }) ≡ rowText w
+    → rowText
+    (record {
+      symbol = w .symbol;
+      close = close;
+      last = w .last;
+      high = w .high;
+      low = w .low;
+      net = w .net;
+      volume = w .volume;
+      count = w .count;
+      agrees = agrees;
+      reported = w .reported;
+    }) ≡ rowText w
 unfolding rowText
 unprinted w close agrees = refl

@@ -46,7 +46,8 @@ fn put_price(out: &mut [u8], at: usize, p: Price) -> usize
 // Last, high and low.
 pub(crate) fn put_prices(out: &mut [u8], at: usize, last: Price, high: Price, low: Price) -> usize
     requires { ⌜ at ≤ 500 ⌝ }
-    ensures { λ r. ⌜ Put 120 (now (out .entry)) at ((32 ∷ priceText last) ++ ((32 ∷ priceText high) ++ (32 ∷ priceText low))) (now (out .exit)) r ⌝ }
+    ensures { λ r. ⌜ Put 120 (now (out .entry)) at
+        ((32 ∷ priceText last) ++ ((32 ∷ priceText high) ++ (32 ∷ priceText low))) (now (out .exit)) r ⌝ }
 {
     let a = put_price(out, at, last);
     let b = put_price(out, a, high);
@@ -85,7 +86,8 @@ pub(crate) fn put_counts(
     reported: Reported,
 ) -> usize
     requires { ⌜ at ≤ 500 ⌝ }
-    ensures { λ r. ⌜ Put 120 (now (out .entry)) at ((32 ∷ countText volume) ++ ((32 ∷ countText count) ++ (32 ∷ reportedText reported))) (now (out .exit)) r ⌝ }
+    ensures { λ r. ⌜ Put 120 (now (out .entry)) at
+        ((32 ∷ countText volume) ++ ((32 ∷ countText count) ++ (32 ∷ reportedText reported))) (now (out .exit)) r ⌝ }
 {
     let a = put_named(out, at, b" ", volume);
     let b = put_named(out, a, b" ", count);

@@ -3,6 +3,7 @@ use crate::runs;
 use crate::sample;
 use crate::sample::Sample;
 
+// The answer to a sample cut or lengthened to each length from 0 to 80.
 pub fn every(s: Sample) {
     let mut answers = [0u8; 81];
     let mut n: usize = 0;

@@ -2,6 +2,7 @@
 use crate::sample;
 use crate::sample::Sample;
 
+// The answers at both ends of a number's range, and just past its top where the width has room for that.
 pub fn number(s: Sample, name: &[u8], at: usize, width: usize, top: u64) {
     let most = largest(width);
     telling::label(s.kind, name);

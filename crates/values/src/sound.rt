@@ -6,6 +6,7 @@ use octets::run::paste;
 use octets::run::put_byte;
 ghost use Prim.Native.Nat.{_<_};
 
+// A system event.
 pub fn event() -> Sample {
     let mut bytes = [0u8; 80];
     put4(&mut bytes, 0, 34200000);
@@ -29,6 +30,7 @@ pub fn trade(kind: u8) -> Sample {
     }
 }
 
+// A trade correction.
 pub fn correction() -> Sample {
     let mut bytes = [0u8; 80];
     original(&mut bytes, b'C');
@@ -41,6 +43,7 @@ pub fn correction() -> Sample {
     }
 }
 
+// An end of day trade summary.
 pub fn summary() -> Sample {
     let mut bytes = [0u8; 80];
     put4(&mut bytes, 0, 72000000);

@@ -67,7 +67,8 @@ reported-told (Volume x) (Volume y) m w = ap Volume w
 -- ---- the row
 
 row-of : (o : RowShown) (y : List ℕ) (k : ℕ) (l h w : Price) (n : Net) (v c : ℕ) (a : Bool) (p : Reported)
-    → y ≡ o .symbol → k ≡ o .close → l ≡ o .last → h ≡ o .high → w ≡ o .low → n ≡ o .net → v ≡ o .volume → c ≡ o .count → a ≡ o .agrees → p ≡ o .reported
+    → y ≡ o .symbol → k ≡ o .close → l ≡ o .last → h ≡ o .high → w ≡ o .low → n ≡ o .net → v ≡ o .volume → c ≡ o .count
+    → a ≡ o .agrees → p ≡ o .reported
     → _≡_ {A = RowShown}
     (record { symbol = y; close = k; last = l; high = h; low = w; net = n; volume = v; count = c; agrees = a; reported = p }) o
 row-of o y k l h w n v c a p p1 p2 p3 p4 p5 p6 p7 p8 p9 p10 = rw (p1, p2, p3, p4, p5, p6, p7, p8, p9, p10)

@@ -48,7 +48,9 @@ slice-aggregate-field-2 : tie.Need-slice-aggregate-field-2
 slice-aggregate-field-2 c = search needs
 
 cast-field-2 : tie.Need-cast-field-2
-cast-field-2 c = casts (c .before .before .before .before .n .given .0 .0) (c .before .before .before .known-told .given .0 .1) (c .before .before .if1 .left)
+cast-field-2 c =
+    casts (c .before .before .before .before .n .given .0 .0) (c .before .before .before .known-told .given .0 .1)
+    (c .before .before .if1 .left)
 
 field-requires-2 : tie.Need-field-requires-2
 field-requires-2 c κs = search needs

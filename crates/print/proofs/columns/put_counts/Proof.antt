@@ -24,7 +24,11 @@ same-length : tie.Need-same-length
 same-length c = search needs
 
 returns : tie.Need-returns
-returns c = then (c .before .before .before .before .before .before .before .before .before .before .before .put-named .ensures) (then (c .before .before .before .before .before .before .put-named2 .ensures) (c .before .before .put-reported .ensures))
+returns c =
+    let at-put-reported-arg = c .before .before .before in
+    let at-put-named2 = at-put-reported-arg .before .before .before in
+    let at-put-named = at-put-named2 .before .before .before .before .before in
+    then (at-put-named .put-named .ensures) (then (at-put-named2 .put-named2 .ensures) (c .before .before .put-reported .ensures))
 
 pub put-counts-spec : {M : Type 1} → statement M
 put-counts-spec =

@@ -21,7 +21,8 @@ put-requires c κs = search needs
 
 add-result : tie.Need-add-result
 add-result c =
-    let s = c .before .before .before .before .before .before .before .before .before .before in
+    let at-out = c .before .before .before .before .before in
+    let s = at-out .before .before .before .before .before in
     omega (arith, c .before .before .put .ensures .1, decimal-short (s .args .n) (s .fits .n .fits), s .pre .0, s .pre .1)
 
 same-length : tie.Need-same-length
@@ -29,10 +30,13 @@ same-length c = search needs
 
 returns : tie.Need-returns
 returns c =
-    let s = c .before .before .before .before .before .before .before .before .before .before in
+    let at-put-arg = c .before .before .before in
+    let at-paste = at-put-arg .before .before .before in
+    let s = at-paste .before .before .before .before in
     let p = c .before .before .put in
     let name = s .args .name .now in
-    then {xs = name} (run 20 (c .before .before .before .before .before .before .paste .ensures) refl (s .pre .1)) (figure 20 (s .args .at + length name) (p .result) (p .ensures) (decimal-short (s .args .n) (s .fits .n .fits)))
+    then {xs = name} (run 20 (at-paste .paste .ensures) refl (s .pre .1))
+    (figure 20 (s .args .at + length name) (p .result) (p .ensures) (decimal-short (s .args .n) (s .fits .n .fits)))
 
 pub put-named-spec : {M : Type 1} → statement M
 put-named-spec =

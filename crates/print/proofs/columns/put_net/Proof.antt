@@ -34,25 +34,36 @@ put-signed-requires c κs = search needs
 
 add-result-2 : tie.Need-add-result-2
 add-result-2 c =
+    let at-slice-known3 = c .before .before .before .before in
+    let at-known-told = at-slice-known3 .before .before .before .before in
+    let at-n = at-known-told .before in
+    let start = at-n .before .before .before in
     let p = c .before .before .put-signed in
-    let f = net-figure (c .before .before .before .before .before .before .before .before .before .before .before .before .args .at + 1) (p .result) (c .before .before .before .before .before .before .before .before .before .n .given .0 .0) (c .before .before .before .before .before .before .before .before .known-told .given .0 .1) (p .ensures) in
-    omega (arith, f .behind, f .near, c .before .before .before .before .before .before .before .before .before .before .before .before .pre)
+    let f = net-figure (start .args .at + 1) (p .result) (at-n .n .given .0 .0) (at-known-told .known-told .given .0 .1) (p .ensures) in
+    omega (arith, f .behind, f .near, start .pre)
 
 same-length : tie.Need-same-length
 same-length c = search needs
 
 returns : tie.Need-returns
-returns c = retold 40 (omega arith) (ap (λ (n : Net). 32 ∷ netText n) (sym (c .before .before .before .before .enum-told .given .1))) (c .before .before .put-absent .ensures)
+returns c =
+    retold 40 (omega arith) (ap (λ (n : Net). 32 ∷ netText n) (sym (c .before .before .before .before .enum-told .given .1)))
+    (c .before .before .put-absent .ensures)
 
 same-length-2 : tie.Need-same-length-2
 same-length-2 c = search needs
 
 returns-2 : tie.Need-returns-2
 returns-2 c =
-    let n = c .before .before .before .before .before .before .before .before .before .n .given in
+    let at-put-signed-arg = c .before .before .before in
+    let at-put-byte = at-put-signed-arg .before .before .before in
+    let at-known-told = at-put-byte .before .before in
+    let at-n = at-known-told .before in
+    let start = at-n .before .before .before in
+    let n = at-n .n .given in
     let p = c .before .before .put-signed in
-    let f = net-figure (c .before .before .before .before .before .before .before .before .before .before .before .before .args .at + 1) (p .result) (n .0 .0) (c .before .before .before .before .before .before .before .before .known-told .given .0 .1) (p .ensures) in
-    retold 40 (omega arith) (ap (λ (n : Net). 32 ∷ netText n) (sym (n .1))) (then (byte (c .before .before .before .before .before .before .put-byte .ensures)) f)
+    let f = net-figure (start .args .at + 1) (p .result) (n .0 .0) (at-known-told .known-told .given .0 .1) (p .ensures) in
+    retold 40 (omega arith) (ap (λ (n : Net). 32 ∷ netText n) (sym (n .1))) (then (byte (at-put-byte .put-byte .ensures)) f)
 
 pub put-net-spec : {M : Type 1} → statement M
 put-net-spec =

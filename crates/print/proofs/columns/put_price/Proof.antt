@@ -38,24 +38,35 @@ put-amount-requires c κs = search needs
 
 add-result-2 : tie.Need-add-result-2
 add-result-2 c =
-    let h = amount-short (c .before .before .before .before .before .before .before .before .before .p .given .0 .0) (omega (arith, c .before .before .before .before .before .before .before .before .known-told .given)) in
-    omega (arith, c .before .before .put-amount .ensures .1, c .before .before .before .before .before .before .before .before .before .before .before .before .pre)
+    let at-slice-known3 = c .before .before .before .before in
+    let at-known-told = at-slice-known3 .before .before .before .before in
+    let at-p = at-known-told .before in
+    let start = at-p .before .before .before in
+    let h = amount-short (at-p .p .given .0 .0) (omega (arith, at-known-told .known-told .given)) in
+    omega (arith, c .before .before .put-amount .ensures .1, start .pre)
 
 same-length : tie.Need-same-length
 same-length c = search needs
 
 returns : tie.Need-returns
-returns c = retold 40 (omega arith) (ap (λ (p : Price). 32 ∷ priceText p) (sym (c .before .before .before .before .enum-told .given .1))) (c .before .before .put-absent .ensures)
+returns c =
+    retold 40 (omega arith) (ap (λ (p : Price). 32 ∷ priceText p) (sym (c .before .before .before .before .enum-told .given .1)))
+    (c .before .before .put-absent .ensures)
 
 same-length-2 : tie.Need-same-length-2
 same-length-2 c = search needs
 
 returns-2 : tie.Need-returns-2
 returns-2 c =
-    let p = c .before .before .before .before .before .before .before .before .before .p .given in
-    let h = amount-short (p .0 .0) (omega (arith, c .before .before .before .before .before .before .before .before .known-told .given)) in
-    let f = figure 21 (c .before .before .before .before .before .before .before .before .before .before .before .before .args .at + 1) (c .before .before .put-amount .result) (c .before .before .put-amount .ensures) h in
-    retold 40 (omega arith) (ap (λ (p : Price). 32 ∷ priceText p) (sym (p .1))) (then (byte (c .before .before .before .before .before .before .put-byte .ensures)) f)
+    let at-put-amount-arg = c .before .before .before in
+    let at-put-byte = at-put-amount-arg .before .before .before in
+    let at-known-told = at-put-byte .before .before in
+    let at-p = at-known-told .before in
+    let start = at-p .before .before .before in
+    let p = at-p .p .given in
+    let h = amount-short (p .0 .0) (omega (arith, at-known-told .known-told .given)) in
+    let f = figure 21 (start .args .at + 1) (c .before .before .put-amount .result) (c .before .before .put-amount .ensures) h in
+    retold 40 (omega arith) (ap (λ (p : Price). 32 ∷ priceText p) (sym (p .1))) (then (byte (at-put-byte .put-byte .ensures)) f)
 
 pub put-price-spec : {M : Type 1} → statement M
 put-price-spec =

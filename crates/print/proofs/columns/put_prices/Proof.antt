@@ -18,7 +18,11 @@ same-length : tie.Need-same-length
 same-length c = search needs
 
 returns : tie.Need-returns
-returns c = then (c .before .before .before .before .before .before .before .before .before .before .put-price .ensures) (then (c .before .before .before .before .before .before .put-price2 .ensures) (c .before .before .put-price3 .ensures))
+returns c =
+    let at-put-price-arg3 = c .before .before .before in
+    let at-put-price2 = at-put-price-arg3 .before .before .before in
+    let at-put-price = at-put-price2 .before .before .before .before in
+    then (at-put-price .put-price .ensures) (then (at-put-price2 .put-price2 .ensures) (c .before .before .put-price3 .ensures))
 
 pub put-prices-spec : {M : Type 1} → statement M
 put-prices-spec =

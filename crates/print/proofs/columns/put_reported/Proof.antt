@@ -29,13 +29,18 @@ same-length : tie.Need-same-length
 same-length c = search needs
 
 returns : tie.Need-returns
-returns c = retold 40 (omega arith) (ap (λ (r : Reported). 32 ∷ reportedText r) (sym (c .before .before .before .before .enum-told .given .1))) (c .before .before .put-absent .ensures)
+returns c =
+    retold 40 (omega arith) (ap (λ (r : Reported). 32 ∷ reportedText r)
+    (sym (c .before .before .before .before .enum-told .given .1))) (c .before .before .put-absent .ensures)
 
 same-length-2 : tie.Need-same-length-2
 same-length-2 c = search needs
 
 returns-2 : tie.Need-returns-2
-returns-2 c = retold 40 (omega arith) (ap (λ (r : Reported). 32 ∷ reportedText r) (sym (c .before .before .before .before .before .before .r .given .1))) (c .before .before .put-named .ensures)
+returns-2 c =
+    let at-put-named-arg2 = c .before .before .before in
+    let at-r = at-put-named-arg2 .before .before .before in
+    retold 40 (omega arith) (ap (λ (r : Reported). 32 ∷ reportedText r) (sym (at-r .r .given .1))) (c .before .before .put-named .ensures)
 
 pub put-reported-spec : {M : Type 1} → statement M
 put-reported-spec =
