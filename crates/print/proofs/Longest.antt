@@ -129,14 +129,6 @@ pub closing-longest : (t w : ℕ) → t < 2 ^ 64 → w < 2 ^ 64 → length (clos
 unfolding closingText
 closing-longest t w h k = rw closing-length (omega (arith, refused-most t w h k, count-longest w k))
 
-pub closing-attained : length (closingText 10000000000000000000 18446744073709551615) ≡ closingLongest
-unfolding closingText decimal lowest digitCount
-closing-attained = refl
-
 pub stop-longest : (n : ℕ) → n < 2 ^ 64 → length (stopText n) ≤ stopLongest
 unfolding stopText
 stop-longest n h = simp length-append (omega (arith, count-longest n h))
-
-pub stop-attained : length (stopText 18446744073709551615) ≡ stopLongest
-unfolding stopText decimal lowest digitCount
-stop-attained = refl

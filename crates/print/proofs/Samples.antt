@@ -1,7 +1,7 @@
 -- The day W as document 01 prints it, and texts worked by hand, as one list.
 -- Assumes nothing.
 use mathlib.Core.Path.{_≡_, refl}
-use mathlib.Core.Bool.{Bool, false}
+use mathlib.Core.Bool.{false}
 use mathlib.Core.List.{List, [], _∷_, _++_}
 use Prim.Native.Nat.{ℕ}
 use Prim.Native.String.{String}
@@ -82,23 +82,3 @@ by-hand =
 pub samples : printed ≡ by-hand
 unfolding printed by-hand rowText closingText stopText amountText decimal lowest digitCount
 samples = refl
-
--- ---- what has no column
-
--- neither the close nor whether the row agrees is printed
-pub unprinted : (w : RowShown) (close : ℕ) (agrees : Bool)
-    → rowText
-    (record {
-      symbol = w .symbol;
-      close = close;
-      last = w .last;
-      high = w .high;
-      low = w .low;
-      net = w .net;
-      volume = w .volume;
-      count = w .count;
-      agrees = agrees;
-      reported = w .reported;
-    }) ≡ rowText w
-unfolding rowText
-unprinted w close agrees = refl
