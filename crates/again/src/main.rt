@@ -3,7 +3,6 @@ mod back;
 mod fields;
 mod refused;
 mod sound;
-mod tell;
 
 fn main() {
     event();
@@ -19,7 +18,7 @@ fn event() {
     let mut message = [0u8; 6];
     let mut space = [back::MARKER; 9];
     sound::event(&mut message);
-    tell::words(b"S\n");
+    telling::words(b"S\n");
     back::again(&message, &mut space);
 }
 
@@ -27,7 +26,7 @@ fn trade(name: &[u8], kind: u8) {
     let mut message = [0u8; 45];
     let mut space = [back::MARKER; 48];
     sound::trade(&mut message, kind);
-    tell::words(name);
+    telling::words(name);
     back::again(&message, &mut space);
 }
 
@@ -35,7 +34,7 @@ fn correction() {
     let mut message = [0u8; 67];
     let mut space = [back::MARKER; 70];
     sound::correction(&mut message);
-    tell::words(b"C\n");
+    telling::words(b"C\n");
     back::again(&message, &mut space);
 }
 
@@ -43,6 +42,6 @@ fn summary() {
     let mut message = [0u8; 34];
     let mut space = [back::MARKER; 37];
     sound::summary(&mut message);
-    tell::words(b"J\n");
+    telling::words(b"J\n");
     back::again(&message, &mut space);
 }

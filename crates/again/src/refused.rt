@@ -1,31 +1,32 @@
 // What is refused, tried on a trade report: the record is of zeros, and the lent space stays.
 use crate::back;
 use crate::sound;
-use crate::tell;
 use records::Record;
 
+// Messages that the reader refuses.
 pub fn reads() {
     // The last byte of a whole report has no place here.
     let mut cut = [0u8; 44];
     sound::trade(&mut cut, b'T');
-    tell::words(b"T one byte short\n");
+    telling::words(b"T one byte short\n");
     back::read(&cut);
     let mut message = [0u8; 45];
     sound::trade(&mut message, b'T');
     numbers::put4(&mut message, 25, 0);
-    tell::words(b"T with price 0\n");
+    telling::words(b"T with price 0\n");
     back::read(&message);
 }
 
+// Records and spaces that the writer refuses.
 pub fn writes() {
     let r = report();
-    tell::words(b"T into a space one byte short\n");
+    telling::words(b"T into a space one byte short\n");
     short(r);
-    tell::words(b"T with an event\n");
+    telling::words(b"T with an event\n");
     whole(with_event(r));
-    tell::words(b"T with an event into a space one byte short\n");
+    telling::words(b"T with an event into a space one byte short\n");
     short(with_event(r));
-    tell::words(b"T renamed Z\n");
+    telling::words(b"T renamed Z\n");
     whole(renamed(r));
 }
 

@@ -8,6 +8,7 @@ const TIME: u32 = 0x01020304;
 
 const VOLUME: u64 = 0xa1a2a3a4a5a6a7a8;
 
+// A system event.
 pub fn event(out: &mut [u8]) {
     put4(out, 0, TIME);
     paste(out, 4, b"SO");
@@ -19,6 +20,7 @@ pub fn trade(out: &mut [u8], kind: u8) {
     put8(out, 37, VOLUME);
 }
 
+// A trade correction.
 pub fn correction(out: &mut [u8]) {
     original(out, b'C');
     paste(out, 37, b"345       ");
@@ -28,6 +30,7 @@ pub fn correction(out: &mut [u8]) {
     put8(out, 59, VOLUME);
 }
 
+// An end of day trade summary.
 pub fn summary(out: &mut [u8]) {
     put4(out, 0, TIME);
     paste(out, 4, b"JABCD    N");

@@ -4,11 +4,14 @@
 use mathlib.Core.Path.{_≡_, refl, ap, sym, _∙_}
 use Prim.Native.Nat.{ℕ}
 use Rattle.answers.specs.declared.Answer.{Answer}
-use Rattle.answers.specs.declared.Answer.the-variants.{Done, NumberOutside, NumberBelow, NumberAbove, NoType, FieldBroken, NotDue, NotListed, NoLine, LineDead, LineDiffers, KeyUsed, LinesFull, ListingBroken, ListingLate, ListedAlready, RowsFull, Unsound, NoSpace}
+use Rattle.answers.specs.declared.Answer.the-variants.{Done, NumberOutside, NumberBelow, NumberAbove, NoType, FieldBroken, NotDue}
+use Rattle.answers.specs.declared.Answer.the-variants.{NotListed, NoLine, LineDead, LineDiffers, KeyUsed, LinesFull, ListingBroken}
+use Rattle.answers.specs.declared.Answer.the-variants.{ListingLate, ListedAlready, RowsFull, Unsound, NoSpace}
 use Rattle.answers.specs.Answers.{numberOf, answerOf}
 use Rattle.answers.proofs.number.Reads as number-reads
 
-pub number-one : (a e e′ : Answer) (r r′ : ℕ) → number-reads.Learnt tt (a, tt) r (e, tt) → number-reads.Learnt tt (a, tt) r′ (e′, tt) → r ≡ r′
+pub number-one : (a e e′ : Answer) (r r′ : ℕ) → number-reads.Learnt tt (a, tt) r (e, tt)
+    → number-reads.Learnt tt (a, tt) r′ (e′, tt) → r ≡ r′
 number-one a e e′ r r′ h h′ = h ∙ sym h′
 
 number-back : (a : Answer) → answerOf (numberOf a) ≡ a

@@ -5,7 +5,9 @@ use Prim.Native.Nat.{ℕ}
 use mathlib.Core.Bool.{cond}
 use lib.Dec.{eqb}
 use Rattle.answers.specs.declared.Answer.{Answer}
-use Rattle.answers.specs.declared.Answer.the-variants.{Done, NumberOutside, NumberBelow, NumberAbove, NoType, FieldBroken, NotDue, NotListed, NoLine, LineDead, LineDiffers, KeyUsed, LinesFull, ListingBroken, ListingLate, ListedAlready, RowsFull, Unsound, NoSpace}
+use Rattle.answers.specs.declared.Answer.the-variants.{Done, NumberOutside, NumberBelow, NumberAbove, NoType, FieldBroken, NotDue}
+use Rattle.answers.specs.declared.Answer.the-variants.{NotListed, NoLine, LineDead, LineDiffers, KeyUsed, LinesFull, ListingBroken}
+use Rattle.answers.specs.declared.Answer.the-variants.{ListingLate, ListedAlready, RowsFull, Unsound, NoSpace}
 
 abbrev pub numberOf : Answer → ℕ
 -- done

@@ -23,8 +23,8 @@ use Rattle.kinds.specs.Kinds.{isEvent, namesOld}
 use Rattle.rows.specs.declared.Listing.{Listing}
 use Rattle.rows.specs.declared.Row.{Row}
 use Rattle.rows.specs.Rows.{rowLimit, listingOf, rowIn, withRow}
-use Rattle.walk.specs.declared.Figures.{Figures}
-use Rattle.walk.specs.Figures.{figuresOf}
+use Rattle.figures.specs.declared.Figures.{Figures}
+use Rattle.walk.specs.Walking.{figuresOf}
 use Rattle.counters.specs.declared.Counters.{Counters}
 use Rattle.counters.specs.Counting.{usedUp, oneRowMore, takenBy}
 use Rattle.counters.proofs.Sound.{sound-gives}

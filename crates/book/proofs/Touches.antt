@@ -31,8 +31,8 @@ use Rattle.rows.specs.declared.Row.{Row}
 use Rattle.rows.specs.Cell.{rowCell, atSummary, atReported}
 use Rattle.rows.specs.Rows.{newRow, reportBytes, summaryBytes, isOf, noRow, rowIn, listingOf, inRow, withRow, withSummary}
 use Rattle.rows.proofs.Slabs.{used-rows-length, row-in, row-length, row-touches, new-row-length, report-length, summary-length}
-use Rattle.walk.specs.declared.Figures.{Figures}
-use Rattle.walk.specs.Figures.{figuresOf}
+use Rattle.figures.specs.declared.Figures.{Figures}
+use Rattle.walk.specs.Walking.{figuresOf}
 use Rattle.walk.specs.Meaning.{Are}
 use Rattle.walk.proofs.Meaning.{figures-are, volume-fits}
 use Rattle.keys.specs.Keys.{kindIn}

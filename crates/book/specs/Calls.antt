@@ -13,7 +13,7 @@ use Rattle.message.specs.Reading.{readOf}
 use Rattle.lines.specs.Lines.{lineWith}
 use Rattle.rows.specs.declared.Listing.{Listing}
 use Rattle.rows.specs.Rows.{rowLimit, listingOf, rowIn, withRow}
-use Rattle.walk.specs.Figures.{figuresOf}
+use Rattle.walk.specs.Walking.{figuresOf}
 use Rattle.counters.specs.Counting.{usedUp, oneRowMore, takenBy}
 use Rattle.keys.specs.Keys.{kindIn, oldKey}
 use Rattle.table.specs.Table.{isListed, numberTable, contentTable}

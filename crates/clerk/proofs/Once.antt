@@ -14,8 +14,8 @@ use Rattle.lines.specs.declared.Line.{Line}
 use Rattle.rows.specs.declared.Listing.{Listing}
 use Rattle.keys.specs.Keys.{oldKey}
 use Rattle.clerk.specs.Messages.{namesIn, makesIn, keyIn}
-use Rattle.walk.specs.declared.Figures.{Figures}
-use Rattle.walk.specs.Figures.{figuresOf}
+use Rattle.figures.specs.declared.Figures.{Figures}
+use Rattle.walk.specs.Walking.{figuresOf}
 use Rattle.walk.specs.Meaning.{Are}
 use Rattle.walk.proofs.Meaning.{figures-are, figures-one}
 use Rattle.show.specs.Showing.{shownOf}

@@ -16,7 +16,7 @@ use Rattle.rows.specs.declared.Summary.{Summary}
 use Rattle.rows.specs.declared.Summary.the-variants.{NoSummary, HighLow}
 use Rattle.rows.specs.declared.Reported.{Reported}
 use Rattle.rows.specs.declared.Reported.the-variants.{NotSet, Volume}
-use Rattle.walk.specs.Figures.{figuresOf}
+use Rattle.walk.specs.Walking.{figuresOf}
 use Rattle.counters.specs.Phases.{phaseOf}
 use Rattle.keys.specs.Keys.{oldKey}
 use Rattle.table.specs.Table.{Basis, searched, contentTable}

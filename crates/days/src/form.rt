@@ -7,6 +7,7 @@ use std::num::wrapping_add_usize;
 // Where the next byte goes, the number so far, and whether a bracket is open.
 pub struct Pen(pub usize, pub u64, pub bool);
 
+// Takes one byte of a line: what it stands for goes to the pen's place, and the pen moves on.
 pub fn sign(pen: Pen, out: &mut [u8], b: u8) -> Pen {
     let at = pen.0;
     let x = pen.1;

@@ -3,7 +3,6 @@ mod form;
 mod play;
 mod rooms;
 mod script;
-mod tell;
 
 use libc::STDIN_FILENO;
 

@@ -1,8 +1,8 @@
 // One call, and what came of it.
 use crate::rooms;
-use crate::tell;
 use book::Said;
 use book::counters::Counters;
+use figures::Price;
 use libc::STDOUT_FILENO;
 use numbers::number4;
 use numbers::number8;
@@ -10,9 +10,9 @@ use octets::run;
 use rows::Reported;
 use show::Net;
 use show::RowShown;
-use walk::Price;
 ghost use Rattle.io.specs.Counts.{Counts};
 
+// A listing: the symbol and the close that the code has, handed to the book.
 pub fn list(c: Counters, rows: &mut [u8], lines: &[u8], code: &[u8]) -> Counters {
     let said = book::list(c, rows, lines, symbol(code), number4(code, 9));
     after(said, rows, lines)
@@ -24,6 +24,7 @@ fn symbol(code: &[u8]) -> [u8; 8] {
     symbol
 }
 
+// A delivery: the number and the message that the code has, handed to the book. A code without a number does nothing.
 pub fn deliver(c: Counters, rows: &mut [u8], lines: &mut [u8], code: &[u8]) -> Counters {
     if code.len() < 9 {
         return c;
@@ -45,42 +46,43 @@ pub fn write(space: &mut [u8], code: &[u8]) {
     let mut r = sound.found;
     r.event = run::byte(code, 1);
     let a = message::write(r, space);
-    tell::number(b':', answers::number(a) as u64);
-    tell::number(b';', rooms::sum(space));
+    telling::marked(b':', answers::number(a) as u64);
+    telling::marked(b';', rooms::sum(space));
 }
 
 // The reader by itself.
 pub fn read(space: &[u8]) {
     let said = message::read(space);
     let a = said.answer;
-    tell::number(b':', answers::number(a) as u64);
-    tell::words(b"\n");
+    telling::marked(b':', answers::number(a) as u64);
+    telling::words(b"\n");
 }
 
 fn after(said: Said, rows: &[u8], lines: &[u8]) -> Counters {
     let a = said.answer;
     let c = said.counters;
-    tell::number(b':', answers::number(a) as u64);
+    telling::marked(b':', answers::number(a) as u64);
     state(c, rows, lines);
     c
 }
 
 // The counters and the sums of both rooms.
 pub fn state(c: Counters, rows: &[u8], lines: &[u8]) {
-    tell::number(b';', c.wanted);
-    tell::number(b' ', c.phase);
-    tell::number(b' ', c.rows as u64);
-    tell::number(b' ', c.lines as u64);
-    tell::number(b' ', c.taken);
-    tell::number(b';', rooms::sum(rows));
-    tell::number(b' ', rooms::sum(lines));
-    tell::words(b"\n");
+    telling::marked(b';', c.wanted);
+    telling::marked(b' ', c.phase);
+    telling::marked(b' ', c.rows as u64);
+    telling::marked(b' ', c.lines as u64);
+    telling::marked(b' ', c.taken);
+    telling::marked(b';', rooms::sum(rows));
+    telling::marked(b' ', rooms::sum(lines));
+    telling::words(b"\n");
 }
 
+// The row of a symbol, with the answer to its reading.
 pub fn row(c: Counters, rows: &[u8], lines: &[u8], code: &[u8]) {
     let said = book::row(c, rows, lines, symbol(code));
     let a = said.answer;
-    tell::number(b':', answers::number(a) as u64);
+    telling::marked(b':', answers::number(a) as u64);
     shown(said.row);
 }
 
@@ -91,55 +93,55 @@ fn shown(r: RowShown) {
     let low = r.low;
     let change = r.net;
     let volume = r.reported;
-    tell::words(b"; ");
+    telling::words(b"; ");
     io::print_hex(STDOUT_FILENO, number8(&found, 0), 16);
-    tell::field(b" close ", r.close as u64);
+    telling::field(b" close ", r.close as u64);
     price(b" last ", last);
     price(b" high ", high);
     price(b" low ", low);
     net(change);
-    tell::field(b" volume ", r.volume);
-    tell::field(b" count ", r.count);
+    telling::field(b" volume ", r.volume);
+    telling::field(b" count ", r.count);
     reported(r.agrees, volume);
 }
 
 fn price(name: &[u8], p: Price) {
-    tell::words(name);
+    telling::words(name);
     match p {
-        Price::Absent => tell::words(b"-"),
-        Price::Of(x) => tell::field(b"", x as u64),
+        Price::Absent => telling::words(b"-"),
+        Price::Of(x) => telling::field(b"", x as u64),
     }
 }
 
 // Last less close, with its sign.
 fn net(n: Net) {
     match n {
-        Net::NoNet => tell::words(b" net -"),
+        Net::NoNet => telling::words(b" net -"),
         Net::Amount(x) => {
             if x < 0 {
-                tell::field(b" net -", ((-1 - x) as u64) + 1);
+                telling::field(b" net -", ((-1 - x) as u64) + 1);
                 return;
             }
             if x == 0 {
-                tell::words(b" net 0");
+                telling::words(b" net 0");
                 return;
             }
-            tell::field(b" net +", x as u64);
+            telling::field(b" net +", x as u64);
         }
     }
 }
 
 fn reported(agrees: bool, r: Reported) {
     if agrees {
-        tell::words(b" agrees yes reported ");
+        telling::words(b" agrees yes reported ");
     } else {
-        tell::words(b" agrees no reported ");
+        telling::words(b" agrees no reported ");
     }
     match r {
-        Reported::NotSet => tell::words(b"-\n"),
+        Reported::NotSet => telling::words(b"-\n"),
         Reported::Volume(x) => {
-            tell::field(b"", x);
-            tell::words(b"\n");
+            telling::field(b"", x);
+            telling::words(b"\n");
         }
     }
 }

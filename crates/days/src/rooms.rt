@@ -1,5 +1,4 @@
 // What the lent bytes hold: whole cells in fields, then the bytes past them.
-use crate::tell;
 use numbers::number4;
 use numbers::number8;
 use octets::run;
@@ -13,16 +12,16 @@ pub fn tell(room: &[u8], cell: usize, form: &[u8], code: &[u8])
 {
     let mut at: usize = 0;
     while cell <= room.len() - at {
-        tell::rest(code, 1);
+        telling::rest(code, 1);
         tell_cell(room, at, form);
         at += cell;
     }
     if at < room.len() {
-        tell::rest(code, 1);
-        tell::words(b"+");
-        tell::words(&room[at..]);
+        telling::rest(code, 1);
+        telling::words(b"+");
+        telling::words(&room[at..]);
     }
-    tell::words(b"\n");
+    telling::words(b"\n");
 }
 
 fn tell_cell(room: &[u8], start: usize, form: &[u8]) {
@@ -39,23 +38,23 @@ fn tell_cell(room: &[u8], start: usize, form: &[u8]) {
 fn tell_part(room: &[u8], at: usize, sign: u8) -> usize {
     match sign {
         b'.' => {
-            tell::words(&[run::byte(room, at)]);
+            telling::words(&[run::byte(room, at)]);
             1
         }
         b'1' => {
-            tell::field(b"", run::byte(room, at) as u64);
+            telling::field(b"", run::byte(room, at) as u64);
             1
         }
         b'4' => {
-            tell::field(b"", number4(room, at) as u64);
+            telling::field(b"", number4(room, at) as u64);
             4
         }
         b'8' => {
-            tell::field(b"", number8(room, at));
+            telling::field(b"", number8(room, at));
             8
         }
         _ => {
-            tell::words(&[sign]);
+            telling::words(&[sign]);
             0
         }
     }

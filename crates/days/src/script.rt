@@ -10,7 +10,6 @@ use crate::form;
 use crate::form::Pen;
 use crate::play;
 use crate::rooms;
-use crate::tell;
 use book::counters::Counters;
 use numbers::number8;
 use octets::run;
@@ -47,7 +46,7 @@ fn turn(day: Day, rows: &mut [u8], lines: &mut [u8], space: &[u8], n: usize, b: 
     }
     if b == b'|' {
         let k = play::least(n, space);
-        tell::words(&space[..k]);
+        telling::words(&space[..k]);
     }
     day
 }
@@ -122,7 +121,7 @@ fn look(c: Counters, rows: &[u8], lines: &[u8], code: &[u8]) {
         b'M' => play::read(rows),
         b'T' => rooms::tell(rows, 30, b"[........ 4 J1 4 4 R1 8]", code),
         b'U' => rooms::tell(lines, 40, b"[........... ........ 4 4 .... 4 4 1]", code),
-        b'.' => tell::words(b"\n"),
+        b'.' => telling::words(b"\n"),
         _ => {}
     }
 }

@@ -34,7 +34,8 @@ first-of n m = go (leb n (length m)) refl
 part-of : (m : List ℕ) (u k : ℕ) → u ≤ k → k ≤ length m → part m u (k - u) ≡ drop u (take k m)
 part-of m u k h f =
     let n : length (take k m) ≡ k = length-take-le k m f in
-    let d : drop u m ≡ drop u (take k m) ++ drop k m = ap (drop u) (sym (take-append-drop k m)) ∙ drop-append-le u (take k m) (drop k m) (omega arith) in
+    let d : drop u m ≡ drop u (take k m) ++ drop k m
+    = ap (drop u) (sym (take-append-drop k m)) ∙ drop-append-le u (take k m) (drop k m) (omega arith) in
     here m u (k - u) (drop u (take k m)) (drop k m) d (length-drop u (take k m) ∙ ap (λ (x : ℕ). x - u) n)
 
 module _ (s : State) (n : ℕ) (m : List ℕ) (k : ℕ) (is : k ≡ min n (length m)) (p : Played) (e : p ≡ played s (take k m)) where
@@ -56,8 +57,16 @@ module _ (s : State) (n : ℕ) (m : List ℕ) (k : ℕ) (is : k ≡ min n (lengt
   unfolding keptIn
   moved out h =
       h
-      ∙ ap (sets m 0) (part-of m (p .used) k used-fits (omega arith) ∙ ap (drop (p .used)) brought ∙ ap (λ (x : Played). drop (x .used) (take n m)) played-is)
+      ∙ ap (sets m 0) (part-of m (p .used) k used-fits (omega arith) ∙ ap (drop (p .used)) brought
+      ∙ ap (λ (x : Played). drop (x .used) (take n m)) played-is)
 
   pub said : record { counters = p .counters; used = p .used; held = k - p .used; stop = p .stop } ≡ fedOf s n m
   unfolding fedOf
-  said = rw held-is (ap (λ (x : Played). record { counters = x .counters; used = x .used; held = length (leftOver s (take n m)); stop = x .stop }) played-is)
+  said =
+      rw held-is (ap (λ (x : Played). record {
+        counters = x .counters;
+        used = x .used;
+        held = length
+            (leftOver s (take n m));
+        stop = x .stop;
+      }) played-is)

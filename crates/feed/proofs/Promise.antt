@@ -14,4 +14,5 @@ use Rattle.feed.proofs.feed.Kinds as feed-kinds
 pub feed-one : (κs : Lfts 3) (a : ArgsD feed.signature κs) (r r′ : Fed) (s s′ : AtExit (endedOf 3 feed-kinds.ps feed-kinds.r) κs)
     → feed-reads.Learnt κs a r s → feed-reads.Learnt κs a r′ s′
     → (r ≡ r′) × (now (s .1 .0) ≡ now (s′ .1 .0)) × (now (s .1 .1 .0) ≡ now (s′ .1 .1 .0)) × (now (s .1 .1 .1 .0) ≡ now (s′ .1 .1 .1 .0))
-feed-one κs a r r′ s s′ h h′ = (h .0 ∙ sym (h′ .0), h .1 .0 ∙ sym (h′ .1 .0), h .1 .1 .0 ∙ sym (h′ .1 .1 .0), h .1 .1 .1 ∙ sym (h′ .1 .1 .1))
+feed-one κs a r r′ s s′ h h′ =
+    (h .0 ∙ sym (h′ .0), h .1 .0 ∙ sym (h′ .1 .0), h .1 .1 .0 ∙ sym (h′ .1 .1 .0), h .1 .1 .1 ∙ sym (h′ .1 .1 .1))

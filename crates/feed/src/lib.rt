@@ -1,5 +1,5 @@
-// A tape of any length, played in pieces as they come: what a piece leaves over is moved to its front, and the next is read
-// behind it.
+// A tape of any length, played in pieces as they come: what a piece leaves over is moved to its front, and the next
+// is read behind it.
 use book::counters::Counters;
 use numbers::lesser;
 use octets::run::to_front;
@@ -21,9 +21,12 @@ pub struct Fed {
 // Plays the first n bytes of a piece, or all where it has fewer.
 pub fn feed(c: Counters, rows: &mut [u8], lines: &mut [u8], piece: &mut [u8], n: usize) -> Fed
     ensures said { λ r. ⌜ r ≡ fedOf (stateOf c (now (rows .entry)) (now (lines .entry))) n (now (piece .entry)) ⌝ }
-    ensures rows { λ r. ⌜ now (rows .exit) ≡ playRows (stateOf c (now (rows .entry)) (now (lines .entry))) (take n (now (piece .entry))) ⌝ }
-    ensures lines { λ r. ⌜ now (lines .exit) ≡ playLines (stateOf c (now (rows .entry)) (now (lines .entry))) (take n (now (piece .entry))) ⌝ }
-    ensures piece { λ r. ⌜ now (piece .exit) ≡ keptIn (stateOf c (now (rows .entry)) (now (lines .entry))) n (now (piece .entry)) ⌝ }
+    ensures rows { λ r. ⌜ now (rows .exit)
+        ≡ playRows (stateOf c (now (rows .entry)) (now (lines .entry))) (take n (now (piece .entry))) ⌝ }
+    ensures lines { λ r. ⌜ now (lines .exit)
+        ≡ playLines (stateOf c (now (rows .entry)) (now (lines .entry))) (take n (now (piece .entry))) ⌝ }
+    ensures piece { λ r. ⌜ now (piece .exit)
+        ≡ keptIn (stateOf c (now (rows .entry)) (now (lines .entry))) n (now (piece .entry)) ⌝ }
 {
     let k = lesser(n, piece.len());
     let p = tape::play(c, rows, lines, &piece[..k]);

@@ -5,7 +5,8 @@ ghost use mathlib.Core.Path.{_≡_};
 ghost use Prim.Native.Nat.{_+_, _*_, _≤_};
 ghost use lib.ListN.{length};
 ghost use lib.Seq.{sets};
-ghost use Rattle.lines.specs.Lines.{lineFrom, lineBytes, mark, noLine, lineLimit, usedLines, lineWith, lineIn, withLine, withDead};
+ghost use Rattle.lines.specs.Lines.{lineFrom, lineBytes, mark, noLine, lineLimit, usedLines};
+ghost use Rattle.lines.specs.Lines.{lineWith, lineIn, withLine, withDead};
 
 // The key is the centre and the control. `place` is the number of the message that first made the trade.
 pub struct Line {

@@ -7,35 +7,27 @@ use denote.Laws.{Is}
 use denote.Enum.Declared.{row}
 use denote.Enum.Laws.{owed, Fields, spellss}
 use denote.Enum.Declared.{variants}
-use Rattle.walk.specs.declared.Price.{Price}
-use Rattle.walk.specs.declared.Price.the-variants.{Absent, Of}
-use Rattle.walk.proofs.Price as price
-use Rattle.walk.proofs.Price.Laws as price-laws
-use Rattle.show.specs.declared.Net.{Net}
-use Rattle.show.specs.declared.Net.the-variants.{NoNet, Amount}
-use Rattle.show.proofs.Net as net
-use Rattle.show.proofs.Net.Laws as net-laws
+use Rattle.figures.specs.declared.Price.{Price}
+use Rattle.figures.specs.declared.Price.the-variants.{Absent, Of}
+use Rattle.figures.proofs.Price as price
+use Rattle.figures.proofs.Price.Laws as price-laws
 use Rattle.rows.specs.declared.Reported.{Reported}
 use Rattle.rows.specs.declared.Reported.the-variants.{NotSet, Volume}
 use Rattle.rows.proofs.Reported as reported
 use Rattle.rows.proofs.Reported.Laws as reported-laws
-use Rattle.print.specs.Fits.{PriceFits, NetFits, ReportedFits}
+use Rattle.print.specs.Fits.{PriceFits, ReportedFits}
 
-price-told : (p : Price) → Fields (variants price.the-type) (spellss (price.the-type .parts) price-laws.the-laws) (price.the-type .to p) → PriceFits p
+price-told : (p : Price)
+    → Fields (variants price.the-type) (spellss (price.the-type .parts) price-laws.the-laws) (price.the-type .to p) → PriceFits p
 price-told Absent h = tt
 price-told (Of x) h = omega (arith, h)
 
 pub price-good : (p : Price) (vs : List Val) → Is (row price.the-type) p vs → PriceFits p
 price-good p vs h = price-told p (owed price.the-type price-laws.the-laws p vs h)
 
-net-told : (n : Net) → Fields (variants net.the-type) (spellss (net.the-type .parts) net-laws.the-laws) (net.the-type .to n) → NetFits n
-net-told NoNet h = tt
-net-told (Amount z) h = h .0 .1
-
-pub net-good : (n : Net) (vs : List Val) → Is (row net.the-type) n vs → NetFits n
-net-good n vs h = net-told n (owed net.the-type net-laws.the-laws n vs h)
-
-reported-told : (r : Reported) → Fields (variants reported.the-type) (spellss (reported.the-type .parts) reported-laws.the-laws) (reported.the-type .to r) → ReportedFits r
+reported-told : (r : Reported)
+    → Fields (variants reported.the-type) (spellss (reported.the-type .parts) reported-laws.the-laws) (reported.the-type .to r)
+    → ReportedFits r
 reported-told NotSet h = tt
 reported-told (Volume v) h = omega (arith, h)
 

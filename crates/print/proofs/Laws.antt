@@ -28,7 +28,8 @@ byte e = record { bytes = e; behind = refl; near = omega arith }
 pub run : (m : ℕ) {l l₁ xs : List ℕ} {at r : ℕ} → l₁ ≡ sets l at xs → r ≡ at + length xs → length xs ≤ m → Put m l at xs l₁ r
 run m e f h = record { bytes = e; behind = f; near = h }
 
-pub then : {m n : ℕ} {l l₁ l₂ xs ys : List ℕ} {at r₁ r₂ : ℕ} → Put m l at xs l₁ r₁ → Put n l₁ r₁ ys l₂ r₂ → Put (m + n) l at (xs ++ ys) l₂ r₂
+pub then : {m n : ℕ} {l l₁ l₂ xs ys : List ℕ} {at r₁ r₂ : ℕ} → Put m l at xs l₁ r₁ → Put n l₁ r₁ ys l₂ r₂
+    → Put (m + n) l at (xs ++ ys) l₂ r₂
 then {m} {n} {l} {l₁} {l₂} {xs} {ys} {at} {r₁} {r₂} p q =
     record {
       bytes = q .bytes ∙ ap (λ (k : List ℕ). sets k r₁ ys) (p .bytes) ∙ sets-then xs ys l at r₁ (sym (p .behind));
@@ -60,7 +61,9 @@ pub figure : (m : ℕ) {l l₁ xs : List ℕ} (at k : ℕ) → (l₁ ≡ sets l 
 figure m at k p h = run m (p .0) (ap (λ (j : ℕ). at + j) (p .1)) h
 
 -- the same of a number of 64 signed bits, as the machine holds it
-pub net-figure : {l l₁ : List ℕ} (at k : ℕ) (z : ℤ) → mag z < 2 ^ 63 → (l₁ ≡ sets l at (signedText (toZ w64 (ofZ w64 z)))) × (k ≡ length (signedText (toZ w64 (ofZ w64 z)))) → Put 21 l at (signedText z) l₁ (at + k)
+pub net-figure : {l l₁ : List ℕ} (at k : ℕ) (z : ℤ) → mag z < 2 ^ 63
+    → (l₁ ≡ sets l at (signedText (toZ w64 (ofZ w64 z)))) × (k ≡ length (signedText (toZ w64 (ofZ w64 z))))
+    → Put 21 l at (signedText z) l₁ (at + k)
 net-figure {l} {l₁} at k z h p =
     let e : toZ w64 (ofZ w64 z) ≡ z = toZ-ofZ (record { sfits = h }) in
     figure 21 at k (p .0 ∙ ap (λ (y : ℤ). sets l at (signedText y)) e, p .1 ∙ ap (λ (y : ℤ). length (signedText y)) e) (signed-short z h)
@@ -68,7 +71,8 @@ net-figure {l} {l₁} at k z h p =
 -- ---- lines
 
 -- the parts of a row, as they are stored
-row-parts : (s a b c d e f g z : List ℕ) → s ++ ((a ++ (b ++ c)) ++ (d ++ ((e ++ (f ++ g)) ++ z))) ≡ (s ++ (a ++ (b ++ (c ++ (d ++ (e ++ (f ++ g))))))) ++ z
+row-parts : (s a b c d e f g z : List ℕ)
+    → s ++ ((a ++ (b ++ c)) ++ (d ++ ((e ++ (f ++ g)) ++ z))) ≡ (s ++ (a ++ (b ++ (c ++ (d ++ (e ++ (f ++ g))))))) ++ z
 row-parts s a b c d e f g z = simp append-assoc
 
 module _ (w : RowShown) where
@@ -79,11 +83,13 @@ module _ (w : RowShown) where
   countsText = (32 ∷ countText (w .volume)) ++ ((32 ∷ countText (w .count)) ++ (32 ∷ reportedText (w .reported)))
 
   pub row-put : {l l₁ l₂ l₃ l₄ l₅ : List ℕ} {r₁ r₂ r₃ r₄ : ℕ} → Put 8 l 0 (symbolText (w .symbol)) l₁ r₁ → Put 120 l₁ r₁ pricesText l₂ r₂
-      → Put 40 l₂ r₂ (32 ∷ netText (w .net)) l₃ r₃ → Put 120 l₃ r₃ countsText l₄ r₄ → l₅ ≡ set l₄ r₄ 10 → Put 300 l 0 (rowText w) l₅ (r₄ + 1)
+      → Put 40 l₂ r₂ (32 ∷ netText (w .net)) l₃ r₃ → Put 120 l₃ r₃ countsText l₄ r₄ → l₅ ≡ set l₄ r₄ 10
+      → Put 300 l 0 (rowText w) l₅ (r₄ + 1)
   unfolding rowText
   row-put p q n k e =
       retold 300 (omega arith)
-      (row-parts (symbolText (w .symbol)) (32 ∷ priceText (w .last)) (32 ∷ priceText (w .high)) (32 ∷ priceText (w .low)) (32 ∷ netText (w .net)) (32 ∷ countText (w .volume)) (32 ∷ countText (w .count)) (32 ∷ reportedText (w .reported)) (10 ∷ []))
+      (row-parts (symbolText (w .symbol)) (32 ∷ priceText (w .last)) (32 ∷ priceText (w .high)) (32 ∷ priceText (w .low))
+      (32 ∷ netText (w .net)) (32 ∷ countText (w .volume)) (32 ∷ countText (w .count)) (32 ∷ reportedText (w .reported)) (10 ∷ []))
       (then p (then q (then n (then k (byte e)))))
 
 closing-parts : (a b c d e f z : List ℕ) → (a ++ b) ++ ((c ++ d) ++ ((e ++ f) ++ z)) ≡ (a ++ (b ++ (c ++ (d ++ (e ++ f))))) ++ z
@@ -99,8 +105,10 @@ abbrev wantedName : List ℕ
 wantedName = letters " WANTED "
 
 pub closing-put : (t w r : ℕ) → r ≡ w - 1 - t → {l l₁ l₂ l₃ l₄ : List ℕ} {r₁ r₂ r₃ : ℕ} → Put 40 l 0 (takenName ++ decimal t) l₁ r₁
-    → Put 40 l₁ r₁ (refusedName ++ decimal r) l₂ r₂ → Put 40 l₂ r₂ (wantedName ++ decimal w) l₃ r₃ → l₄ ≡ set l₃ r₃ 10 → Put 121 l 0 (closingText t w) l₄ (r₃ + 1)
+    → Put 40 l₁ r₁ (refusedName ++ decimal r) l₂ r₂ → Put 40 l₂ r₂ (wantedName ++ decimal w) l₃ r₃ → l₄ ≡ set l₃ r₃ 10
+    → Put 121 l 0 (closingText t w) l₄ (r₃ + 1)
 unfolding closingText
 closing-put t w r h p q n e =
-    retold 121 (omega arith) (closing-parts takenName (decimal t) refusedName (decimal r) wantedName (decimal w) (10 ∷ []) ∙ ap (λ (k : ℕ). (takenName ++ (decimal t ++ (refusedName ++ (decimal k ++ (wantedName ++ decimal w))))) ++ (10 ∷ [])) h)
+    retold 121 (omega arith) (closing-parts takenName (decimal t) refusedName (decimal r) wantedName (decimal w) (10 ∷ [])
+    ∙ ap (λ (k : ℕ). (takenName ++ (decimal t ++ (refusedName ++ (decimal k ++ (wantedName ++ decimal w))))) ++ (10 ∷ [])) h)
     (then p (then q (then n (byte e))))

@@ -11,8 +11,8 @@ use lib.IntN.{negsuc}
 use lib.ListN.{length, length-append}
 use Rattle.rows.specs.declared.Reported.{Reported}
 use Rattle.rows.specs.declared.Reported.the-variants.{NotSet, Volume}
-use Rattle.walk.specs.declared.Price.{Price}
-use Rattle.walk.specs.declared.Price.the-variants.{Absent, Of}
+use Rattle.figures.specs.declared.Price.{Price}
+use Rattle.figures.specs.declared.Price.the-variants.{Absent, Of}
 use Rattle.show.specs.declared.Net.{Net}
 use Rattle.show.specs.declared.Net.the-variants.{NoNet, Amount}
 use Rattle.show.specs.declared.RowShown.{RowShown}
@@ -20,7 +20,8 @@ use Rattle.decimal.specs.Decimal.{digitCount, lowest, decimal}
 use Rattle.decimal.specs.Letters.{letters}
 use Rattle.decimal.specs.Amount.{amountText}
 use Rattle.print.specs.Texts.{priceText, netText, countText, reportedText, line, headerText, rowText, closingText, stopText}
-use Rattle.print.specs.Fits.{PriceFits, NetFits, ReportedFits, RowFits, headerLongest, rowLongest, closingLongest, stopLongest}
+use Rattle.show.specs.Fits.{NetFits}
+use Rattle.print.specs.Fits.{PriceFits, ReportedFits, RowFits, headerLongest, rowLongest, closingLongest, stopLongest}
 use Rattle.decimal.proofs.Numbers.{decimal-most, decimal-short}
 use Rattle.decimal.proofs.Amount.{amount-most, signed-short}
 use Rattle.print.proofs.Padding.{unpadded-short}
@@ -44,7 +45,9 @@ reported-most (Volume v) h = count-longest v h
 
 -- ---- lines
 
-line-length : (s a b c d e f g : List ℕ) → length (line s (a ∷ b ∷ c ∷ d ∷ e ∷ f ∷ g ∷ [])) ≡ length s + length a + length b + length c + length d + length e + length f + length g + 8
+line-length : (s a b c d e f g : List ℕ)
+    → length (line s (a ∷ b ∷ c ∷ d ∷ e ∷ f ∷ g ∷ []))
+    ≡ length s + length a + length b + length c + length d + length e + length f + length g + 8
 line-length s a b c d e f g = simp length-append (omega arith)
 
 pub row-longest : (w : RowShown) → RowFits w → length (rowText w) ≤ rowLongest
@@ -118,21 +121,14 @@ refused-most t w h k = go (ltb t w) refl
     go true e = both-most t (w - 1 - t) (omega (arith, ltb-true t w e))
     go false e = both-most t (w - 1 - t) (omega (arith, ltb-false t w e))
 
-closing-length : (a b c d e f : List ℕ) → length (line a (b ∷ c ∷ d ∷ e ∷ f ∷ [])) ≡ length a + length b + length c + length d + length e + length f + 6
+closing-length : (a b c d e f : List ℕ)
+    → length (line a (b ∷ c ∷ d ∷ e ∷ f ∷ [])) ≡ length a + length b + length c + length d + length e + length f + 6
 closing-length a b c d e f = simp length-append (omega arith)
 
 pub closing-longest : (t w : ℕ) → t < 2 ^ 64 → w < 2 ^ 64 → length (closingText t w) ≤ closingLongest
 unfolding closingText
 closing-longest t w h k = rw closing-length (omega (arith, refused-most t w h k, count-longest w k))
 
-pub closing-attained : length (closingText 10000000000000000000 18446744073709551615) ≡ closingLongest
-unfolding closingText decimal lowest digitCount
-closing-attained = refl
-
 pub stop-longest : (n : ℕ) → n < 2 ^ 64 → length (stopText n) ≤ stopLongest
 unfolding stopText
 stop-longest n h = simp length-append (omega (arith, count-longest n h))
-
-pub stop-attained : length (stopText 18446744073709551615) ≡ stopLongest
-unfolding stopText decimal lowest digitCount
-stop-attained = refl

@@ -52,7 +52,8 @@ module _ (κs : Lfts 1) (a : ArgsD closing.signature κs) where
 
   -- what a caller is told, and nothing else
   pub closing-says : (r : ℕ) (s : AtExit (endedOf 1 closing-kinds.ps closing-kinds.r) κs)
-      → closing-reads.Learnt κs a r s ≡ ((now (s .1 .1 .0) ≡ sets (now (a .1 .1 .0)) 0 (closingText (a .0) (a .1 .0))) × (r ≡ length (closingText (a .0) (a .1 .0))))
+      → closing-reads.Learnt κs a r s
+      ≡ ((now (s .1 .1 .0) ≡ sets (now (a .1 .1 .0)) 0 (closingText (a .0) (a .1 .0))) × (r ≡ length (closingText (a .0) (a .1 .0))))
   closing-says r s = refl
 
 module _ (κs : Lfts 1) (a : ArgsD stops.signature κs) where

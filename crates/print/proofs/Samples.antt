@@ -1,15 +1,15 @@
 -- The day W as document 01 prints it, and texts worked by hand, as one list.
 -- Assumes nothing.
 use mathlib.Core.Path.{_≡_, refl}
-use mathlib.Core.Bool.{Bool, false}
+use mathlib.Core.Bool.{false}
 use mathlib.Core.List.{List, [], _∷_, _++_}
 use Prim.Native.Nat.{ℕ}
 use Prim.Native.String.{String}
 use lib.IntN.{pos, negsuc}
 use Rattle.rows.specs.declared.Reported.{Reported}
 use Rattle.rows.specs.declared.Reported.the-variants.{NotSet, Volume}
-use Rattle.walk.specs.declared.Price.{Price}
-use Rattle.walk.specs.declared.Price.the-variants.{Absent, Of}
+use Rattle.figures.specs.declared.Price.{Price}
+use Rattle.figures.specs.declared.Price.the-variants.{Absent, Of}
 use Rattle.show.specs.declared.Net.{Net}
 use Rattle.show.specs.declared.Net.the-variants.{NoNet, Amount}
 use Rattle.show.specs.declared.RowShown.{RowShown}
@@ -34,7 +34,8 @@ rowOf symbol close last high low net volume count reported =
     }
 
 -- the whole output of day W
-pub w-printed : headerText ++ (rowText (rowOf "ABCD    " 250000 (Of 252500) (Of 252500) (Of 252500) (Amount (pos 2500)) 170 2 (Volume 600)) ++ closingText 6 7)
+pub w-printed : headerText ++
+    (rowText (rowOf "ABCD    " 250000 (Of 252500) (Of 252500) (Of 252500) (Amount (pos 2500)) 170 2 (Volume 600)) ++ closingText 6 7)
     ≡ letters "SYMBOL LAST HIGH LOW NET VOLUME TRADES CONSOL\nABCD 25.2500 25.2500 25.2500 +0.2500 170 2 600\nTAKEN 6 REFUSED 0 WANTED 7\n"
 unfolding headerText rowText closingText amountText decimal lowest digitCount
 w-printed = refl
@@ -81,11 +82,3 @@ by-hand =
 pub samples : printed ≡ by-hand
 unfolding printed by-hand rowText closingText stopText amountText decimal lowest digitCount
 samples = refl
-
--- ---- what has no column
-
--- neither the close nor whether the row agrees is printed
-pub unprinted : (w : RowShown) (close : ℕ) (agrees : Bool)
-    → rowText (record { symbol = w .symbol; close = close; last = w .last; high = w .high; low = w .low; net = w .net; volume = w .volume; count = w .count; agrees = agrees; reported = w .reported }) ≡ rowText w
-unfolding rowText
-unprinted w close agrees = refl

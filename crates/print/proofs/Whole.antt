@@ -63,8 +63,11 @@ module _ (κs : Lfts 1) where
   row-whole a r s f g h = found (rowText (a .0)) (now (a .1 .0)) (now (s .1 .0)) rowLongest r (row-longest (a .0) f) g (h .0) (h .1)
 
   pub closing-whole : (a : ArgsD closing.signature κs) (r : ℕ) (s : AtExit (endedOf 1 closing-kinds.ps closing-kinds.r) κs)
-      → a .0 < 2 ^ 64 → a .1 .0 < 2 ^ 64 → closingLongest ≤ length (now (a .1 .1 .0)) → closing-reads.Learnt κs a r s → take r (now (s .1 .1 .0)) ≡ closingText (a .0) (a .1 .0)
-  closing-whole a r s t w g h = found (closingText (a .0) (a .1 .0)) (now (a .1 .1 .0)) (now (s .1 .1 .0)) closingLongest r (closing-longest (a .0) (a .1 .0) t w) g (h .0) (h .1)
+      → a .0 < 2 ^ 64 → a .1 .0 < 2 ^ 64 → closingLongest ≤ length (now (a .1 .1 .0)) → closing-reads.Learnt κs a r s
+      → take r (now (s .1 .1 .0)) ≡ closingText (a .0) (a .1 .0)
+  closing-whole a r s t w g h =
+      found (closingText (a .0) (a .1 .0)) (now (a .1 .1 .0)) (now (s .1 .1 .0)) closingLongest r
+      (closing-longest (a .0) (a .1 .0) t w) g (h .0) (h .1)
 
   pub stops-whole : (a : ArgsD stops.signature κs) (r : ℕ) (s : AtExit (endedOf 1 stops-kinds.ps stops-kinds.r) κs)
       → a .0 < 2 ^ 64 → stopLongest ≤ length (now (a .1 .0)) → stops-reads.Learnt κs a r s → take r (now (s .1 .0)) ≡ stopText (a .0)

@@ -3,23 +3,16 @@
 use Prim.Native.Nat.{ℕ, _^_, _<_}
 use mathlib.Core.Path.{_≡_}
 use lib.ListN.{length}
-use lib.Signed.{mag}
 use Rattle.rows.specs.declared.Reported.{Reported}
 use Rattle.rows.specs.declared.Reported.the-variants.{NotSet, Volume}
-use Rattle.walk.specs.declared.Price.{Price}
-use Rattle.walk.specs.declared.Price.the-variants.{Absent, Of}
-use Rattle.show.specs.declared.Net.{Net}
-use Rattle.show.specs.declared.Net.the-variants.{NoNet, Amount}
+use Rattle.figures.specs.declared.Price.{Price}
+use Rattle.figures.specs.declared.Price.the-variants.{Absent, Of}
 use Rattle.show.specs.declared.RowShown.{RowShown}
+use Rattle.show.specs.Fits.{NetFits}
 
 abbrev pub PriceFits : Price → Type 0
 PriceFits Absent = Unit
 PriceFits (Of p) = p < 2 ^ 32
-
--- 64 signed bits: n and -(n + 1) for n below 2 ^ 63
-abbrev pub NetFits : Net → Type 0
-NetFits NoNet = Unit
-NetFits (Amount z) = mag z < 2 ^ 63
 
 abbrev pub ReportedFits : Reported → Type 0
 ReportedFits NotSet = Unit

@@ -11,8 +11,8 @@ use Rattle.decimal.specs.Decimal.{decimal}
 use Rattle.decimal.specs.Amount.{amountText, signedText}
 use Rattle.rows.specs.declared.Reported.{Reported}
 use Rattle.rows.specs.declared.Reported.the-variants.{NotSet, Volume}
-use Rattle.walk.specs.declared.Price.{Price}
-use Rattle.walk.specs.declared.Price.the-variants.{Absent, Of}
+use Rattle.figures.specs.declared.Price.{Price}
+use Rattle.figures.specs.declared.Price.the-variants.{Absent, Of}
 use Rattle.show.specs.declared.Net.{Net}
 use Rattle.show.specs.declared.Net.the-variants.{NoNet, Amount}
 use Rattle.show.specs.declared.RowShown.{RowShown}

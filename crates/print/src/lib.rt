@@ -1,9 +1,9 @@
 // The printed wall as bytes in a lent buffer. A text that does not fit is cut at the end of the buffer; the number that
 // comes back is the whole text's length.
-mod figures;
+mod columns;
 mod symbols;
 
-use figures::put_named;
+use columns::put_named;
 use octets::run::paste;
 use octets::run::put_byte;
 use show::RowShown;
@@ -35,9 +35,9 @@ pub fn row(shown: RowShown, out: &mut [u8]) -> usize
     let net = shown.net;
     let reported = shown.reported;
     let a = symbols::put_symbol(out, 0, symbol);
-    let b = figures::put_prices(out, a, last, high, low);
-    let c = figures::put_net(out, b, net);
-    let d = figures::put_counts(out, c, shown.volume, shown.count, reported);
+    let b = columns::put_prices(out, a, last, high, low);
+    let c = columns::put_net(out, b, net);
+    let d = columns::put_counts(out, c, shown.volume, shown.count, reported);
     put_byte(out, d, b'\n');
     d + 1
 }

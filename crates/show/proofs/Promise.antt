@@ -4,7 +4,7 @@
 -- Assumes nothing.
 use mathlib.Core.Path.{_≡_, sym, _∙_}
 use Rattle.rows.specs.declared.Row.{Row}
-use Rattle.walk.specs.declared.Figures.{Figures}
+use Rattle.figures.specs.declared.Figures.{Figures}
 use Rattle.show.specs.declared.RowShown.{RowShown}
 use Rattle.show.proofs.nothing.Reads as nothing-reads
 use Rattle.show.proofs.shown.Reads as shown-reads

@@ -10,7 +10,7 @@ use lib.Signed.{mag}
 use mir.Syntax.{w64}
 use mir.Val.{SFits, toZ}
 use mir.Facts.{toZ-pos}
-use Rattle.walk.specs.declared.Price.the-variants.{Of}
+use Rattle.figures.specs.declared.Price.the-variants.{Of}
 use Rattle.show.specs.declared.Net.the-variants.{Amount}
 use Rattle.show.specs.Showing.{netOf}
 

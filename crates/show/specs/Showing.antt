@@ -9,11 +9,11 @@ use Rattle.rows.specs.declared.Row.{Row}
 use Rattle.rows.specs.declared.Summary.{Summary}
 use Rattle.rows.specs.declared.Summary.the-variants.{NoSummary, HighLow}
 use Rattle.rows.specs.declared.Reported.the-variants.{NotSet}
-use Rattle.walk.specs.declared.Price.{Price}
-use Rattle.walk.specs.declared.Price.the-variants.{Absent, Of}
-use Rattle.walk.specs.declared.Last.{Last}
-use Rattle.walk.specs.declared.Last.the-variants.{NoLast, Trade}
-use Rattle.walk.specs.declared.Figures.{Figures}
+use Rattle.figures.specs.declared.Price.{Price}
+use Rattle.figures.specs.declared.Price.the-variants.{Absent, Of}
+use Rattle.figures.specs.declared.Last.{Last}
+use Rattle.figures.specs.declared.Last.the-variants.{NoLast, Trade}
+use Rattle.figures.specs.declared.Figures.{Figures}
 use Rattle.show.specs.declared.Net.{Net}
 use Rattle.show.specs.declared.Net.the-variants.{NoNet, Amount}
 use Rattle.show.specs.declared.RowShown.{RowShown}

@@ -1,10 +1,10 @@
 // A row as it is read: what is kept in it and the figures of its symbol's live lines.
+use figures::Figures;
+use figures::Last;
+use figures::Price;
 use rows::Reported;
 use rows::Row;
 use rows::Summary;
-use walk::Figures;
-use walk::Last;
-use walk::Price;
 ghost use mathlib.Core.Path.{_≡_};
 ghost use Rattle.show.specs.Showing as Showing;
 

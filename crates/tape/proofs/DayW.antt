@@ -6,8 +6,9 @@ use lib.IntN.{pos}
 use lib.ListN.{length}
 use Rattle.answers.specs.Answers.{answerOf}
 use Rattle.rows.specs.declared.Reported.the-variants.{Volume}
-use Rattle.walk.specs.declared.Price.the-variants.{Of}
-use Rattle.walk.specs.Figures as Figures
+use Rattle.figures.specs.declared.Price.the-variants.{Of}
+use Rattle.figures.specs.Figures as Figures
+use Rattle.walk.specs.Walking as Walking
 use Rattle.show.specs.declared.Net.the-variants.{Amount}
 use Rattle.show.specs.Showing as Showing
 use Rattle.book.specs.Calls as Calls
@@ -37,5 +38,5 @@ pub w-shown : rowShown (playW .state .counters) (playW .state .rows) (playW .sta
             reported = Volume 600;
           };
     }
-unfolding playW Figures.counts Figures.sold Figures.tally Figures.fold Figures.figuresOf Showing.shownOf Calls.rowAnswer Calls.rowShown
+unfolding playW Walking.counts Figures.sold Walking.tally Walking.fold Walking.figuresOf Showing.shownOf Calls.rowAnswer Calls.rowShown
 w-shown = refl

@@ -13,8 +13,8 @@ use Rattle.lines.specs.Lines.{lineLimit}
 use Rattle.rows.specs.Rows.{rowLimit}
 use Rattle.rows.specs.declared.Reported.{Reported}
 use Rattle.rows.specs.declared.Reported.the-variants.{NotSet, Volume}
-use Rattle.walk.specs.declared.Price.{Price}
-use Rattle.walk.specs.declared.Price.the-variants.{Absent, Of}
+use Rattle.figures.specs.declared.Price.{Price}
+use Rattle.figures.specs.declared.Price.the-variants.{Absent, Of}
 use Rattle.show.specs.declared.Net.{Net}
 use Rattle.show.specs.declared.Net.the-variants.{NoNet, Amount}
 use Rattle.show.specs.declared.RowShown.{RowShown}
@@ -33,7 +33,8 @@ use Rattle.message.specs.Reading as Reading
 use Rattle.cells.specs.Search as Search
 use Rattle.lines.specs.Lines as Lines
 use Rattle.rows.specs.Rows as Rows
-use Rattle.walk.specs.Figures as Figures
+use Rattle.figures.specs.Figures as Figures
+use Rattle.walk.specs.Walking as Walking
 use Rattle.show.specs.Showing as Showing
 use Rattle.numbers.specs.Up as Up
 use Rattle.kinds.specs.Kinds as Kinds
@@ -210,7 +211,7 @@ unfolding Run.tab Run.part Number.be Number.digits Up.up Text.text Conditions.le
     Lawful.saleOk Lawful.saleNone Lawful.pricesNone Lawful.tradeOk Lawful.lawfulS Lawful.lawfulT Lawful.lawfulC Lawful.lawfulJ Lawful.lawfulOf
     Reading.judgedOf Reading.readOf Search.first Lines.lineFrom Lines.lineBytes Lines.usedLines Lines.lineIn Lines.withLine Lines.withDead
     Rows.listingFrom Rows.summaryAt Rows.reportedAt Rows.rowFrom Rows.newRow Rows.reportBytes Rows.summaryBytes Rows.usedRows Rows.rowIn Rows.inRow
-    Figures.counts Figures.sold Figures.tally Figures.fold Figures.figuresOf Showing.shownOf
+    Walking.counts Figures.sold Walking.tally Walking.fold Walking.figuresOf Showing.shownOf
     Kinds.kindOf Keys.matches Table.numberTable Table.contentTable Taking.linesBy Taking.rowsBy Counting.sound Counting.takenBy
     Calls.listTable Calls.listAnswer Calls.listed Calls.messageGiven Calls.delivered Calls.rowAnswer Calls.shown
     figuresFor listedEach opened deliveredIn answersTo leftBy

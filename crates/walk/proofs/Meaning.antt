@@ -3,7 +3,8 @@
 use Prim.Native.Nat.{ℕ, zero, suc, _+_, _*_, _≤_, _<_, min}
 use mathlib.Core.Path.{_≡_, refl, ap, sym, _∙_}
 use mathlib.Core.Logic.{⊎-elim}
-use mathlib.Core.List.{List, [], _∷_, _++_, append-assoc, append-nil, List·Memᴰ, List·Memᴰ·head, List·Memᴰ·tail, List·Memᴰ·not-nil, List·Memᴰ·cases-cons, List·Memᴰ·append-cases, List·Memᴰ·eq-of-singleton, Memᴰ·append-left, Memᴰ·append-right}
+use mathlib.Core.List.{List, [], _∷_, _++_, append-assoc, append-nil, List·Memᴰ, List·Memᴰ·head, List·Memᴰ·tail, List·Memᴰ·not-nil}
+use mathlib.Core.List.{List·Memᴰ·cases-cons, List·Memᴰ·append-cases, List·Memᴰ·eq-of-singleton, Memᴰ·append-left, Memᴰ·append-right}
 use mathlib.Core.Bool.{Bool, true, false, cond}
 use native.Mathlib.Nat.{suc-mul}
 use native.Mathlib.Omega.{arith}
@@ -13,14 +14,16 @@ use lib.ListN.{length, length-append}
 use Rattle.octets.specs.Run.{tab, Bytes}
 use Rattle.numbers.proofs.Laws.{be-below}
 use Rattle.lines.specs.declared.Line.{Line}
-use Rattle.walk.specs.declared.Price.{Price}
-use Rattle.walk.specs.declared.Price.the-variants.{Absent, Of}
-use Rattle.walk.specs.declared.Last.{Last}
-use Rattle.walk.specs.declared.Last.the-variants.{NoLast, Trade}
-use Rattle.walk.specs.declared.Figures.{Figures}
+use Rattle.figures.specs.declared.Price.{Price}
+use Rattle.figures.specs.declared.Price.the-variants.{Absent, Of}
+use Rattle.figures.specs.declared.Last.{Last}
+use Rattle.figures.specs.declared.Last.the-variants.{NoLast, Trade}
+use Rattle.figures.specs.declared.Figures.{Figures}
 use Rattle.lines.specs.Lines.{lineFrom, lineAt, lineLimit, usedLines}
-use Rattle.walk.specs.Figures.{counts, raise, lower, later, noFigures, sold, dealt, tally, fold, figuresOf}
-use Rattle.walk.specs.Meaning.{keep, liveOf, bearsFirst, bearsSecond, firstMark, secondMark, sizes, Extreme, IsExtreme, IsHigh, IsLow, Newest, IsLast, Are}
+use Rattle.figures.specs.Figures.{raise, lower, later, noFigures, sold}
+use Rattle.walk.specs.Walking.{counts, dealt, tally, fold, figuresOf}
+use Rattle.walk.specs.Meaning.{keep, liveOf, bearsFirst, bearsSecond, firstMark, secondMark, sizes, Extreme, IsExtreme, IsHigh, IsLow}
+use Rattle.walk.specs.Meaning.{Newest, IsLast, Are}
 use Rattle.lines.proofs.Slabs.{used-lines-length}
 
 -- ---- one more line that passes, and one that does not
@@ -35,7 +38,8 @@ module _ {A : Type 0} (passes : A → Bool) (x : A) where
   keep-more (y ∷ xs) = go (passes y) (keep-more xs)
     where
       go : (t : Bool) → keep passes (xs ++ (x ∷ [])) ≡ keep passes xs ++ cond (passes x) (x ∷ []) []
-          → cond t (y ∷ keep passes (xs ++ (x ∷ []))) (keep passes (xs ++ (x ∷ []))) ≡ cond t (y ∷ keep passes xs) (keep passes xs) ++ cond (passes x) (x ∷ []) []
+          → cond t (y ∷ keep passes (xs ++ (x ∷ []))) (keep passes (xs ++ (x ∷ [])))
+          ≡ cond t (y ∷ keep passes xs) (keep passes xs) ++ cond (passes x) (x ∷ []) []
       go true e = ap (λ (zs : List A). y ∷ zs) e
       go false e = e
 
@@ -48,7 +52,9 @@ module _ {A : Type 0} (passes : A → Bool) (x : A) where
 module _ {A : Type 0} (P : A → Type 0) (xs : List A) (x : A) where
   -- what holds of each element, and of one more, holds of each with that one
   each-more : ((y : A) → List·Memᴰ y xs → P y) → P x → (y : A) → List·Memᴰ y (xs ++ (x ∷ [])) → P y
-  each-more h p y m = ⊎-elim (λ (n : List·Memᴰ y xs). h y n) (λ (n : List·Memᴰ y (x ∷ [])). rw (List·Memᴰ·eq-of-singleton n) p) (List·Memᴰ·append-cases xs m)
+  each-more h p y m =
+      ⊎-elim (λ (n : List·Memᴰ y xs). h y n) (λ (n : List·Memᴰ y (x ∷ [])). rw (List·Memᴰ·eq-of-singleton n) p)
+      (List·Memᴰ·append-cases xs m)
 
 -- ---- one more line, for each figure
 
@@ -66,7 +72,8 @@ module _ (bounds : ℕ → ℕ → Type 0) (self : (p : ℕ) → bounds p p) (ls
         line = l;
         among = the-last;
         price = refl;
-        every = each-more (λ (y : Line). bounds (l .price) (y .price)) ls l (λ y m. absurd (List·Memᴰ·not-nil (rw e at m))) (self (l .price));
+        every =
+            each-more (λ (y : Line). bounds (l .price) (y .price)) ls l (λ y m. absurd (List·Memᴰ·not-nil (rw e at m))) (self (l .price));
       }
 
   extreme-kept : (q : ℕ) → Extreme bounds ls q → bounds q (l .price) → Extreme bounds (ls ++ (l ∷ [])) q
@@ -127,10 +134,13 @@ module _ (ls : List Line) (l : Line) where
     newest-tops : (y : Line) → List·Memᴰ y ls → y .place ≤ v
     newest-tops y m =
         let n : List·Memᴰ y (h .before ++ (h .line ∷ h .after)) = rw (h .whole) at m in
-        ⊎-elim (λ (b : List·Memᴰ y (h .before)). omega (arith, h .smaller y b)) (λ (b : List·Memᴰ y (h .line ∷ h .after)). here b) (List·Memᴰ·append-cases (h .before) n)
+        ⊎-elim (λ (b : List·Memᴰ y (h .before)). omega (arith, h .smaller y b)) (λ (b : List·Memᴰ y (h .line ∷ h .after)). here b)
+        (List·Memᴰ·append-cases (h .before) n)
       where
         here : List·Memᴰ y (h .line ∷ h .after) → y .place ≤ v
-        here b = ⊎-elim (λ (e : y ≡ h .line). omega (arith, ap (λ (x : Line). x .place) e, h .place)) (λ (a : List·Memᴰ y (h .after)). h .noGreater y a) (List·Memᴰ·cases-cons b)
+        here b =
+            ⊎-elim (λ (e : y ≡ h .line). omega (arith, ap (λ (x : Line). x .place) e, h .place))
+            (λ (a : List·Memᴰ y (h .after)). h .noGreater y a) (List·Memᴰ·cases-cons b)
 
     newest-new : v < l .place → Newest (ls ++ (l ∷ [])) (l .place) (l .price)
     newest-new b =
@@ -170,7 +180,8 @@ module _ (ls : List Line) (l : Line) where
 
 -- a figure P over the lines that pass, with the line or without it as the line passes
 figure-more : {A : Type 0} (P : List Line → A → Type 0) (passes : Line → Bool) (ls : List Line) (l : Line) (old new : A)
-    → P (keep passes ls) old → (P (keep passes ls) old → P (keep passes ls ++ (l ∷ [])) new) → P (keep passes (ls ++ (l ∷ []))) (cond (passes l) new old)
+    → P (keep passes ls) old → (P (keep passes ls) old → P (keep passes ls ++ (l ∷ [])) new)
+    → P (keep passes (ls ++ (l ∷ []))) (cond (passes l) new old)
 figure-more P passes ls l old new h more = go (passes l) refl
   where
     go : (t : Bool) → passes l ≡ t → P (keep passes (ls ++ (l ∷ []))) (cond t new old)
@@ -190,9 +201,14 @@ module _ (symbol : List ℕ) (ls : List Line) (f : Figures) (l : Line) (a : Are 
       record {
         volume = rw k (omega (arith, sizes-more live l, a .volume));
         count = rw k (omega (arith, n, a .count));
-        high = rw k (figure-more IsHigh bearsFirst live l (f .high) (raise (f .high) (l .price)) (a .high) (high-more (firstMark live) l (f .high)));
-        low = rw k (figure-more IsLow bearsFirst live l (f .low) (lower (f .low) (l .price)) (a .low) (low-more (firstMark live) l (f .low)));
-        last = rw k (figure-more IsLast bearsSecond live l (f .last) (later (f .last) (l .place) (l .price)) (a .last) (last-more (secondMark live) l (f .last)));
+        high =
+            rw k (figure-more IsHigh bearsFirst live l (f .high) (raise (f .high) (l .price)) (a .high)
+            (high-more (firstMark live) l (f .high)));
+        low =
+            rw k (figure-more IsLow bearsFirst live l (f .low) (lower (f .low) (l .price)) (a .low) (low-more (firstMark live) l (f .low)));
+        last =
+            rw k (figure-more IsLast bearsSecond live l (f .last) (later (f .last) (l .place) (l .price)) (a .last)
+            (last-more (secondMark live) l (f .last)));
       }
 
   are-without : counts symbol l ≡ false → Are symbol (ls ++ (l ∷ [])) f
@@ -305,7 +321,8 @@ keep-length passes (x ∷ xs) = go (passes x) (keep-length passes xs)
     go false h = omega arith
 
 -- the sizes of lines that are each at most b
-keep-sizes : (passes : Line → Bool) (line : ℕ → Line) (b : ℕ) → ((k : ℕ) → line k .size ≤ b) → (i n : ℕ) → sizes (keep passes (tab line i n)) ≤ n * b
+keep-sizes : (passes : Line → Bool) (line : ℕ → Line) (b : ℕ) → ((k : ℕ) → line k .size ≤ b) → (i n : ℕ)
+    → sizes (keep passes (tab line i n)) ≤ n * b
 unfolding tab
 keep-sizes passes line b h i zero = omega arith
 keep-sizes passes line b h i (suc n) = go (passes (line i)) (keep-sizes passes line b h (suc i) n)
@@ -322,7 +339,9 @@ module _ (m symbol : List ℕ) (used : ℕ) where
   unfolding usedLines lineFrom
   volume-fits b =
       let e = figures-are symbol (usedLines m used) .volume in
-      let s = keep-sizes (counts symbol) (lineAt m) 4294967295 (λ k. omega (arith, be-below m (k * 40 + 23) 4 b)) 0 (min used (lineLimit (length m))) in
+      let s
+      = keep-sizes (counts symbol) (lineAt m) 4294967295 (λ k. omega (arith, be-below m (k * 40 + 23) 4 b)) 0
+      (min used (lineLimit (length m))) in
       omega (arith, e, s)
 
   pub count-fits : figuresOf symbol (usedLines m used) .count ≤ 65536

@@ -8,12 +8,12 @@ use mathlib.Core.Bool.{Bool, cond}
 use lib.ListN.{length}
 use Rattle.conditions.specs.Conditions.{conditionMarks}
 use Rattle.lines.specs.declared.Line.{Line}
-use Rattle.walk.specs.declared.Price.{Price}
-use Rattle.walk.specs.declared.Price.the-variants.{Absent, Of}
-use Rattle.walk.specs.declared.Last.{Last}
-use Rattle.walk.specs.declared.Last.the-variants.{NoLast, Trade}
-use Rattle.walk.specs.declared.Figures.{Figures}
-use Rattle.walk.specs.Figures.{counts}
+use Rattle.figures.specs.declared.Price.{Price}
+use Rattle.figures.specs.declared.Price.the-variants.{Absent, Of}
+use Rattle.figures.specs.declared.Last.{Last}
+use Rattle.figures.specs.declared.Last.the-variants.{NoLast, Trade}
+use Rattle.figures.specs.declared.Figures.{Figures}
+use Rattle.walk.specs.Walking.{counts}
 
 -- ---- which lines
 

@@ -1,5 +1,8 @@
 // The walk of one symbol's live lines into its figures.
 use conditions::Marks;
+use figures::Figures;
+use figures::Last;
+use figures::Price;
 use lines::CELL;
 use lines::CONDITION;
 use lines::LIVE;
@@ -8,79 +11,15 @@ use lines::PRICE;
 use lines::SIZE;
 use lines::SYMBOL;
 ghost use mathlib.Core.Path.{_≡_};
-ghost use mathlib.Core.Bool.{cond, _&&_};
+ghost use mathlib.Core.Bool.{_&&_};
 ghost use Prim.Native.Nat.{_+_, _*_, _≤_, _<_, _^_};
 ghost use lib.Dec.{eqb};
 ghost use lib.ListN.{length, getD};
 ghost use Rattle.octets.specs.Run.{part};
 ghost use Rattle.lines.specs.Lines.{lineFrom, usedLines};
-ghost use Rattle.walk.specs.Low.{low};
-ghost use Rattle.walk.specs.Figures.{raise, lower, later, sold, dealt, figuresOf};
-
-pub enum Price {
-    Absent,
-    Of(u32),
-}
-
-// The newest trade that may be the last: its place and its price.
-pub enum Last {
-    NoLast,
-    Trade(u32, u32),
-}
-
-// What a row reads from the live lines of its symbol.
-pub struct Figures {
-    pub volume: u64,
-    pub count: u64,
-    pub high: Price,
-    pub low: Price,
-    pub last: Last,
-}
-
-fn higher(h: Price, marked: bool, p: u32) -> Price
-    ensures { λ r. ⌜ r ≡ cond marked (raise h p) h ⌝ }
-{
-    if marked {
-        match h {
-            Price::Absent => Price::Of(p),
-            Price::Of(q) => { if q < p { Price::Of(p) } else { Price::Of(q) } }
-        }
-    } else {
-        h
-    }
-}
-
-fn lowered(h: Price, marked: bool, p: u32) -> Price
-    ensures { λ r. ⌜ r ≡ cond marked (lower h p) h ⌝ }
-{
-    if marked {
-        match h {
-            Price::Absent => Price::Of(p),
-            Price::Of(q) => { if p < q { Price::Of(p) } else { Price::Of(q) } }
-        }
-    } else {
-        h
-    }
-}
-
-fn latest(l: Last, marked: bool, place: u32, price: u32) -> Last
-    ensures { λ r. ⌜ r ≡ cond marked (later l place price) l ⌝ }
-{
-    if marked {
-        match l {
-            Last::NoLast => Last::Trade(place, price),
-            Last::Trade(v, q) => {
-                if v < place {
-                    Last::Trade(place, price)
-                } else {
-                    Last::Trade(v, q)
-                }
-            }
-        }
-    } else {
-        l
-    }
-}
+ghost use Rattle.numbers.specs.Low.{low};
+ghost use Rattle.figures.specs.Figures.{sold};
+ghost use Rattle.walk.specs.Walking.{dealt, figuresOf};
 
 // The figures with one more trade.
 fn with_sale(t: Figures, price: u32, size: u32, place: u32, marks: Marks) -> Figures
@@ -93,30 +32,24 @@ fn with_sale(t: Figures, price: u32, size: u32, place: u32, marks: Marks) -> Fig
     Figures {
         volume: t.volume + (size as u64),
         count: t.count + 1,
-        high: higher(high, marks.high_low, price),
-        low: lowered(low, marks.high_low, price),
-        last: latest(last, marks.last, place, price),
+        high: figures::higher(high, marks.high_low, price),
+        low: figures::lowered(low, marks.high_low, price),
+        last: figures::latest(last, marks.last, place, price),
     }
 }
 
-// The number of the eight bytes from a place on, the first the lowest.
-fn eight(s: &[u8], at: usize) -> u64
-    requires { ⌜ at + 8 ≤ length (now s) ⌝ }
-    ensures { λ r. ⌜ r ≡ low (part (now (s .entry)) at 8) ⌝ }
-{
-    numbers::weigh(s[at + 7], s[at + 6], s[at + 5], s[at + 4]) * 4294967296
-        + numbers::weigh(s[at + 3], s[at + 2], s[at + 1], s[at])
-}
-
-// Whether the line whose cell starts at an offset is live and of the symbol, which is given as the number of its eight bytes.
+// Whether the line whose cell starts at an offset is live and of the symbol, which is given as the number of its
+// eight bytes.
 fn is_counted(lines: &[u8], at: usize, symbol: u64) -> bool
     requires { ⌜ at + 40 ≤ length (now lines) ⌝ }
-    ensures { λ r. ⌜ r ≡ (eqb (getD (now (lines .entry)) (at + 39) 0) 1 && eqb (low (part (now (lines .entry)) (at + 11) 8)) symbol) ⌝ }
+    ensures { λ r. ⌜ r ≡ (eqb (getD (now (lines .entry)) (at + 39) 0) 1
+        && eqb (low (part (now (lines .entry)) (at + 11) 8)) symbol) ⌝ }
 {
     if lines[at + LIVE] != 1 {
         return false;
     }
-    eight(lines, at + SYMBOL) == symbol
+    let from = at + SYMBOL;
+    numbers::low8(&lines[from..from + 8], 0) == symbol
 }
 
 // The figures with the trade of the line whose cell starts at an offset.
@@ -145,7 +78,7 @@ pub fn walk(lines: &[u8], used: usize, symbol: [u8; 8]) -> Figures
     ensures { λ r. ⌜ r ≡ figuresOf symbol (usedLines (now (lines .entry)) used) ⌝ }
 {
     let n = numbers::lesser(used, lines::limit(lines.len()));
-    let name = eight(&symbol, 0);
+    let name = numbers::low8(&symbol, 0);
     let mut t = Figures {
         volume: 0,
         count: 0,

@@ -22,7 +22,8 @@ goes-on w k q = go k (ap (tagOf the-type) q)
     go (inl e) f = omega (arith, e, f)
     go (inr e) f = omega (arith, e, f)
 
-pub held-fits : (f : Fed) (s : State) (n : ℕ) (piece : List ℕ) → f ≡ fedOf s n piece → (tagOf the-type (f .stop) ≡ 0) ⊎ (tagOf the-type (f .stop) ≡ 2) → f .held ≤ 71
+pub held-fits : (f : Fed) (s : State) (n : ℕ) (piece : List ℕ) → f ≡ fedOf s n piece
+    → (tagOf the-type (f .stop) ≡ 0) ⊎ (tagOf the-type (f .stop) ≡ 2) → f .held ≤ 71
 held-fits f s n piece e k =
     let g : fedOf s n piece .stop ≡ NoKind → ⊥ = rw e at (goes-on (f .stop) k) in
     rw e (held-short s n piece g)

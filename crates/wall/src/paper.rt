@@ -6,6 +6,7 @@ use libc::STDERR_FILENO;
 use libc::STDOUT_FILENO;
 use numbers::lesser;
 
+// Prints the whole wall.
 pub fn print(reading: Reading, rows: &[u8], lines: &[u8]) {
     let c = reading.counters;
     print_header();
@@ -28,11 +29,12 @@ fn print_rows(c: Counters, rows: &[u8], lines: &[u8]) {
     }
 }
 
+// The row at a place, with the figures of its symbol's lines. No search is needed: the place is known.
 fn print_row(c: Counters, rows: &[u8], lines: &[u8], i: usize) {
     let kept = rows::get(rows, i);
     let symbol = kept.symbol;
-    let told = book::row(c, rows, lines, symbol);
-    let shown = told.row;
+    let figures = walk::walk(lines, c.lines, symbol);
+    let shown = show::shown(kept, figures);
     let mut line = [0u8; 256];
     let n = print::row(shown, &mut line);
     put(&line, n);

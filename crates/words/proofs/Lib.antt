@@ -1,5 +1,4 @@
 pub mod Signed
 pub mod Again
 pub mod Told
-pub mod Fitting
 pub mod Promise

@@ -6,14 +6,15 @@ use mathlib.Core.Bool.{true, false}
 use native.Mathlib.Omega.{arith}
 use lib.IntN.{ℤ, pos, negsuc, natAbs}
 use lib.Signed.{mag, ltZ}
-use Rattle.decimal.proofs.Signed.{held, left, held-is, size-held, not-below, not-above}
+use Rattle.numbers.proofs.Signed.{held, left, held-is, size-held, not-below, not-above}
 use Rattle.words.specs.Words.{signedWord}
 
 -- below zero a number's size and its word make 2^64, and the word is none of a number from zero on
 pub below-zero : (n : ℕ) → n < 2 ^ 63 → (signedWord (negsuc n) + (n + 1) ≡ 2 ^ 64) × (2 ^ 63 ≤ signedWord (negsuc n))
 below-zero n h = (omega arith, omega arith)
 
-pub below-word : (z : ℤ) → mag z < 2 ^ 63 → ltZ (held z) (pos 0) ≡ true → 18446744073709551615 - natAbs (held (left (held z))) ≡ signedWord z
+pub below-word : (z : ℤ) → mag z < 2 ^ 63 → ltZ (held z) (pos 0) ≡ true
+    → 18446744073709551615 - natAbs (held (left (held z))) ≡ signedWord z
 below-word (pos a) h t = absurd (not-below a (rw (held-is (pos a) h) at t))
 below-word (negsuc a) h t = ap (λ (y : ℤ). 18446744073709551615 - natAbs y) (size-held a h)
 

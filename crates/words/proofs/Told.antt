@@ -12,15 +12,16 @@ use Rattle.octets.specs.Run.{Bytes}
 use Rattle.numbers.specs.Number.{be, digits}
 use Rattle.numbers.proofs.Trips.{digits-part}
 use Rattle.octets.proofs.Trips.{whole}
-use Rattle.walk.specs.declared.Price.{Price}
-use Rattle.walk.specs.declared.Price.the-variants.{Absent, Of}
+use Rattle.figures.specs.declared.Price.{Price}
+use Rattle.figures.specs.declared.Price.the-variants.{Absent, Of}
 use Rattle.rows.specs.declared.Reported.{Reported}
 use Rattle.rows.specs.declared.Reported.the-variants.{NotSet, Volume}
 use Rattle.show.specs.declared.Net.{Net}
 use Rattle.show.specs.declared.Net.the-variants.{NoNet, Amount}
 use Rattle.show.specs.declared.RowShown.{RowShown}
 use Rattle.words.specs.Words.{priceMark, priceWord, signedWord, netMark, netWord, reportedMark, reportedWord, rowWords}
-use Rattle.words.specs.Fits.{NetFits, RowFits}
+use Rattle.show.specs.Fits.{NetFits}
+use Rattle.words.specs.Fits.{RowFits}
 
 -- ---- figure by figure
 
@@ -66,7 +67,8 @@ reported-told (Volume x) (Volume y) m w = ap Volume w
 -- ---- the row
 
 row-of : (o : RowShown) (y : List ℕ) (k : ℕ) (l h w : Price) (n : Net) (v c : ℕ) (a : Bool) (p : Reported)
-    → y ≡ o .symbol → k ≡ o .close → l ≡ o .last → h ≡ o .high → w ≡ o .low → n ≡ o .net → v ≡ o .volume → c ≡ o .count → a ≡ o .agrees → p ≡ o .reported
+    → y ≡ o .symbol → k ≡ o .close → l ≡ o .last → h ≡ o .high → w ≡ o .low → n ≡ o .net → v ≡ o .volume → c ≡ o .count
+    → a ≡ o .agrees → p ≡ o .reported
     → _≡_ {A = RowShown}
     (record { symbol = y; close = k; last = l; high = h; low = w; net = n; volume = v; count = c; agrees = a; reported = p }) o
 row-of o y k l h w n v c a p p1 p2 p3 p4 p5 p6 p7 p8 p9 p10 = rw (p1, p2, p3, p4, p5, p6, p7, p8, p9, p10)

@@ -7,8 +7,8 @@ use lib.IntN.{ℤ, pos, negsuc}
 use lib.ListN.{getD}
 use Rattle.numbers.specs.Number.{be}
 use Rattle.book.specs.declared.counters.Counters.{Counters}
-use Rattle.walk.specs.declared.Price.{Price}
-use Rattle.walk.specs.declared.Price.the-variants.{Absent, Of}
+use Rattle.figures.specs.declared.Price.{Price}
+use Rattle.figures.specs.declared.Price.the-variants.{Absent, Of}
 use Rattle.rows.specs.declared.Reported.{Reported}
 use Rattle.rows.specs.declared.Reported.the-variants.{NotSet, Volume}
 use Rattle.show.specs.declared.Net.{Net}

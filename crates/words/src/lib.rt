@@ -1,11 +1,11 @@
 // Counters and a row as words of 64 bits, as a program of another language passes them. Which word is which is said in
 // `specs/Words.antt`; the numbers here are held to it.
 use book::counters::Counters;
+use figures::Price;
 use numbers::number8;
 use rows::Reported;
 use show::Net;
 use show::RowShown;
-use walk::Price;
 ghost use mathlib.Core.Path.{_≡_};
 ghost use mathlib.Core.Bool.{cond};
 ghost use Rattle.words.specs.Words as W;

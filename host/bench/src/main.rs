@@ -1,5 +1,7 @@
 //! The proved library beside `plain`, the same book in ordinary Rust, in one run: `cargo run --release -p bench`, and with
-//! `-- --sizes` how the cost of a message and of a row grows.
+//! `-- --sizes` how the cost of a message and of a row grows. `-- --count CALL SIDE` does one call's work once, so that `tools/count` can
+//! have its instructions counted.
+mod count;
 mod day;
 mod report;
 mod sides;
@@ -68,8 +70,13 @@ fn sizes() {
 }
 
 fn main() {
+    let words: Vec<String> = std::env::args().skip(1).collect();
+    if words.first().is_some_and(|word| word == "--count") {
+        count::count(&words[1..]);
+        return;
+    }
     head();
-    if std::env::args().any(|word| word == "--sizes") {
+    if words.iter().any(|word| word == "--sizes") {
         sizes();
         return;
     }

@@ -3,10 +3,20 @@ use crate::day;
 use std::hint::black_box;
 use std::time::Instant;
 
+// The work that is measured, as a function of its own: `tools/count` counts the instructions of this one and of nothing else.
+#[inline(never)]
+fn the_work(work: impl FnOnce()) {
+    work();
+}
+
 fn timed(work: impl FnOnce()) -> u64 {
     let start = Instant::now();
-    work();
+    the_work(work);
     start.elapsed().as_nanos() as u64
+}
+
+fn symbols() -> Vec<[u8; 8]> {
+    (0..256).map(day::symbol).collect()
 }
 
 /// What is measured of a side.
@@ -16,8 +26,30 @@ pub trait Side {
     fn reads(message: &[u8], times: usize) -> u64;
     /// A message's record written so many times.
     fn writes(message: &[u8], times: usize) -> u64;
-    /// The rooms cleared, a sheet of 256, then the messages in order; the messages alone are timed.
-    fn day(&mut self, messages: &[Vec<u8>]) -> u64;
+    /// The rooms cleared and a fresh book started.
+    fn clear(&mut self);
+    /// A sheet of 256 symbols listed.
+    fn list(&mut self, symbols: &[[u8; 8]]);
+    /// The messages delivered in order.
+    fn deliver(&mut self, messages: &[Vec<u8>]);
+    /// The listings alone, timed.
+    fn sheet(&mut self) -> u64 {
+        self.clear();
+        let symbols = symbols();
+        timed(|| self.list(&symbols))
+    }
+    /// A whole day.
+    fn play(&mut self, messages: &[Vec<u8>]) {
+        self.clear();
+        self.list(&symbols());
+        self.deliver(messages);
+    }
+    /// The same, of which the messages alone are timed.
+    fn day(&mut self, messages: &[Vec<u8>]) -> u64 {
+        self.clear();
+        self.list(&symbols());
+        timed(|| self.deliver(messages))
+    }
     /// Every row of the sheet read once.
     fn wall(&self) -> u64;
 }
@@ -84,47 +116,45 @@ impl Side for Proved {
         })
     }
 
-    fn day(&mut self, messages: &[Vec<u8>]) -> u64 {
+    fn clear(&mut self) {
         self.rows.fill(0);
         self.lines.fill(0);
         sorundappa::raw::start(&mut self.counters);
-        for i in 0..256 {
-            assert_eq!(
-                sorundappa::raw::list(
-                    &mut self.counters,
-                    &mut self.rows,
-                    &self.lines,
-                    &day::symbol(i),
-                    250_000
-                ),
-                0
+    }
+
+    fn list(&mut self, symbols: &[[u8; 8]]) {
+        for symbol in symbols {
+            let told = sorundappa::raw::list(
+                &mut self.counters,
+                &mut self.rows,
+                &self.lines,
+                symbol,
+                250_000,
             );
+            assert_eq!(told, 0);
         }
-        timed(|| {
-            for (number, message) in (1..).zip(messages) {
-                let told = sorundappa::raw::deliver(
-                    &mut self.counters,
-                    &mut self.rows,
-                    &mut self.lines,
-                    number,
-                    message,
-                );
-                assert_eq!(told, 0, "number {number}");
-            }
-        })
+    }
+
+    fn deliver(&mut self, messages: &[Vec<u8>]) {
+        for (number, message) in (1..).zip(messages) {
+            let told = sorundappa::raw::deliver(
+                &mut self.counters,
+                &mut self.rows,
+                &mut self.lines,
+                number,
+                message,
+            );
+            assert_eq!(told, 0, "number {number}");
+        }
     }
 
     fn wall(&self) -> u64 {
         let mut row = [0; 15];
+        let symbols = symbols();
         timed(|| {
-            for i in 0..256 {
-                let told = sorundappa::raw::row(
-                    &self.counters,
-                    &self.rows,
-                    &self.lines,
-                    &day::symbol(i),
-                    &mut row,
-                );
+            for symbol in &symbols {
+                let told =
+                    sorundappa::raw::row(&self.counters, &self.rows, &self.lines, symbol, &mut row);
                 assert_eq!(black_box((told, sorundappa::Row::of(&row))).0, 0);
             }
         })
@@ -154,41 +184,38 @@ impl Side for Plain {
         })
     }
 
-    fn day(&mut self, messages: &[Vec<u8>]) -> u64 {
+    fn clear(&mut self) {
         self.rows.fill(0);
         self.lines.fill(0);
         self.counters = plain::fresh();
-        for i in 0..256 {
-            assert_eq!(
-                plain::list(
-                    &mut self.counters,
-                    &mut self.rows,
-                    &self.lines,
-                    day::symbol(i),
-                    250_000
-                ),
-                plain::Answer::Done
-            );
+    }
+
+    fn list(&mut self, symbols: &[[u8; 8]]) {
+        for symbol in symbols {
+            let told =
+                plain::list(&mut self.counters, &mut self.rows, &self.lines, *symbol, 250_000);
+            assert_eq!(told, plain::Answer::Done);
         }
-        timed(|| {
-            for (number, message) in (1..).zip(messages) {
-                let told = plain::deliver(
-                    &mut self.counters,
-                    &mut self.rows,
-                    &mut self.lines,
-                    number,
-                    message,
-                );
-                assert_eq!(told, plain::Answer::Done, "number {number}");
-            }
-        })
+    }
+
+    fn deliver(&mut self, messages: &[Vec<u8>]) {
+        for (number, message) in (1..).zip(messages) {
+            let told = plain::deliver(
+                &mut self.counters,
+                &mut self.rows,
+                &mut self.lines,
+                number,
+                message,
+            );
+            assert_eq!(told, plain::Answer::Done, "number {number}");
+        }
     }
 
     fn wall(&self) -> u64 {
+        let symbols = symbols();
         timed(|| {
-            for i in 0..256 {
-                let (told, row) =
-                    plain::row(&self.counters, &self.rows, &self.lines, day::symbol(i));
+            for symbol in &symbols {
+                let (told, row) = plain::row(&self.counters, &self.rows, &self.lines, *symbol);
                 assert_eq!(black_box((told, row)).0, plain::Answer::Done);
             }
         })

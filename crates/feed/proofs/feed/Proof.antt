@@ -16,17 +16,24 @@ slice-reshare-prefix-play : tie.Need-slice-reshare-prefix-play
 slice-reshare-prefix-play c = search needs
 
 slice-aggregate-play : tie.Need-slice-aggregate-play
-slice-aggregate-play c = sym (length-take-le (c .before .before .before .lesser .result) (c .before .before .before .before .before .before .before .args .piece .now) (omega arith))
+slice-aggregate-play c =
+    let at-lesser = c .before .before .before in
+    let start = at-lesser .before .before .before .before in
+    sym (length-take-le (at-lesser .lesser .result) (start .args .piece .now) (omega arith))
 
 play-requires : tie.Need-play-requires
 play-requires c κs = search needs
 
 sub-to-front : tie.Need-sub-to-front
 sub-to-front c =
-    let a = c .before .before .before .before .before .before .before .before .before .before .before .before .before .before .args in
+    let at-lines = c .before .before .before in
+    let at-play = at-lines .before .before .before in
+    let at-lesser = at-play .before .before .before .before in
+    let start = at-lesser .before .before .before .before in
+    let a = start .args in
     let s = stateOf (a .c) (a .rows .now) (a .lines .now) in
-    let l = c .before .before .before .before .before .before .before .before .before .before .lesser in
-    let p = c .before .before .before .before .before .before .play in
+    let l = at-lesser .lesser in
+    let p = at-play .play in
     used-fits s (a .n) (a .piece .now) (l .result) (l .ensures) (p .result) (p .ensures .0)
 
 to-front-requires : tie.Need-to-front-requires
@@ -34,10 +41,14 @@ to-front-requires c κs = search needs
 
 sub-t11 : tie.Need-sub-t11
 sub-t11 c =
-    let a = c .before .before .before .before .before .before .before .before .before .before .before .before .before .before .before .before .before .args in
+    let at-slice-known5 = c .before .before .before .before .before in
+    let at-play = at-slice-known5 .before .before .before .before in
+    let at-lesser = at-play .before .before .before .before in
+    let start = at-lesser .before .before .before .before in
+    let a = start .args in
     let s = stateOf (a .c) (a .rows .now) (a .lines .now) in
-    let l = c .before .before .before .before .before .before .before .before .before .before .before .before .before .lesser in
-    let p = c .before .before .before .before .before .before .before .before .before .play in
+    let l = at-lesser .lesser in
+    let p = at-play .play in
     used-fits s (a .n) (a .piece .now) (l .result) (l .ensures) (p .result) (p .ensures .0)
 
 same-length : tie.Need-same-length
@@ -51,10 +62,14 @@ same-length-3 c = search needs
 
 returns : tie.Need-returns
 returns c =
-    let a = c .before .before .before .before .before .before .before .before .before .before .before .before .before .before .before .before .before .args in
+    let at-slice-known5 = c .before .before .before .before .before in
+    let at-play = at-slice-known5 .before .before .before .before in
+    let at-lesser = at-play .before .before .before .before in
+    let start = at-lesser .before .before .before .before in
+    let a = start .args in
     let s = stateOf (a .c) (a .rows .now) (a .lines .now) in
-    let l = c .before .before .before .before .before .before .before .before .before .before .before .before .before .lesser in
-    let p = c .before .before .before .before .before .before .before .before .before .play in
+    let l = at-lesser .lesser in
+    let p = at-play .play in
     let b = brought s (a .n) (a .piece .now) (l .result) (l .ensures) (p .result) (p .ensures .0) in (
       said s (a .n) (a .piece .now) (l .result) (l .ensures) (p .result) (p .ensures .0),
       (

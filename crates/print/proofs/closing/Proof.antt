@@ -31,7 +31,14 @@ slice-aggregate-put-named-3 : tie.Need-slice-aggregate-put-named-3
 slice-aggregate-put-named-3 c = refl
 
 put-named-requires-3 : tie.Need-put-named-requires-3
-put-named-requires-3 c κs = (reach 40 800 (c .before .before .before .before .put-named2 .ensures) (reach 0 40 (c .before .before .before .before .before .before .before .before .before .before .put-named .ensures) (lit≤ tt) (lit≤ tt)) (lit≤ tt), lit≤ tt)
+put-named-requires-3 c κs =
+    let at-put-named2 = c .before .before .before .before in
+    let at-put-named-arg3 = at-put-named2 .before .before .before in
+    let at-put-named = at-put-named-arg3 .before .before .before in (
+      reach 40 800 (at-put-named2 .put-named2 .ensures) (reach 0 40 (at-put-named .put-named .ensures) (lit≤ tt) (lit≤ tt))
+          (lit≤ tt),
+      lit≤ tt,
+    )
 
 put-byte-requires : tie.Need-put-byte-requires
 put-byte-requires c κs = tt
@@ -44,8 +51,16 @@ same-length c = search needs
 
 returns : tie.Need-returns
 returns c =
-    let a = c .before .before .before .before .before .before .before .before .before .before .before .before .before .before .before .before .before .before .before .before .before .args in
-    from-start (closing-put (a .taken) (a .wanted) (c .before .before .before .before .before .before .before .before .before .before .before .before .refused .result) (c .before .before .before .before .before .before .before .before .before .before .before .before .refused .ensures) (c .before .before .before .before .before .before .before .before .before .before .before .before .before .before .before .before .before .put-named .ensures) (c .before .before .before .before .before .before .before .before .before .before .before .put-named2 .ensures) (c .before .before .before .before .before .before .put-named3 .ensures) (c .before .before .put-byte .ensures))
+    let at-put-byte-arg = c .before .before .before in
+    let at-put-named3 = at-put-byte-arg .before .before .before in
+    let at-put-named2 = at-put-named3 .before .before .before .before .before in
+    let at-refused = at-put-named2 .before in
+    let at-put-named = at-refused .before .before .before .before .before in
+    let start = at-put-named .before .before .before .before in
+    let a = start .args in
+    from-start (closing-put (a .taken) (a .wanted) (at-refused .refused .result) (at-refused .refused .ensures)
+    (at-put-named .put-named .ensures) (at-put-named2 .put-named2 .ensures) (at-put-named3 .put-named3 .ensures)
+    (c .before .before .put-byte .ensures))
 
 pub closing-spec : {M : Type 1} → statement M
 closing-spec =

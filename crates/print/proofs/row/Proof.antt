@@ -2,7 +2,8 @@
 -- Assumes nothing.
 use lib.Dec.{lit≤}
 use Rattle.print.specs.Fits.{RowFits}
-use Rattle.print.proofs.Fitting.{price-good, net-good, reported-good}
+use Rattle.show.proofs.Fitting.{net-good}
+use Rattle.print.proofs.Fitting.{price-good, reported-good}
 use Rattle.print.proofs.Laws.{reach, from-start, row-put}
 use borrow.Author.Needs.{needs}
 use Rattle.print.proofs.row.Statement.{statement}
@@ -31,10 +32,19 @@ put-prices-requires : tie.Need-put-prices-requires
 put-prices-requires c κs = reach 0 500 (c .before .before .before .put-symbol .ensures) (lit≤ tt) (lit≤ tt)
 
 put-net-requires : tie.Need-put-net-requires
-put-net-requires c κs = reach 8 800 (c .before .before .before .put-prices .ensures) (reach 0 8 (c .before .before .before .before .before .before .before .put-symbol .ensures) (lit≤ tt) (lit≤ tt)) (lit≤ tt)
+put-net-requires c κs =
+    let at-put-prices = c .before .before .before in
+    let at-put-symbol = at-put-prices .before .before .before .before in
+    reach 8 800 (at-put-prices .put-prices .ensures) (reach 0 8 (at-put-symbol .put-symbol .ensures) (lit≤ tt) (lit≤ tt)) (lit≤ tt)
 
 put-counts-requires : tie.Need-put-counts-requires
-put-counts-requires c κs = reach 128 500 (c .before .before .before .put-net .ensures) (reach 8 128 (c .before .before .before .before .before .before .before .put-prices .ensures) (reach 0 8 (c .before .before .before .before .before .before .before .before .before .before .before .put-symbol .ensures) (lit≤ tt) (lit≤ tt)) (lit≤ tt)) (lit≤ tt)
+put-counts-requires c κs =
+    let at-put-net = c .before .before .before in
+    let at-put-prices = at-put-net .before .before .before .before in
+    let at-put-symbol = at-put-prices .before .before .before .before in
+    reach 128 500 (at-put-net .put-net .ensures)
+    (reach 8 128 (at-put-prices .put-prices .ensures) (reach 0 8 (at-put-symbol .put-symbol .ensures) (lit≤ tt) (lit≤ tt))
+    (lit≤ tt)) (lit≤ tt)
 
 put-byte-requires : tie.Need-put-byte-requires
 put-byte-requires c κs = tt
@@ -47,8 +57,15 @@ same-length c = search needs
 
 returns : tie.Need-returns
 returns c =
-    let w = c .before .before .before .before .before .before .before .before .before .before .before .before .before .before .before .before .before .before .before .before .before .before .args .shown in
-    from-start (row-put w (c .before .before .before .before .before .before .before .before .before .before .before .before .before .before .before .before .before .before .put-symbol .ensures) (c .before .before .before .before .before .before .before .before .before .before .before .before .before .before .put-prices .ensures) (c .before .before .before .before .before .before .before .before .before .before .put-net .ensures) (c .before .before .before .before .before .before .put-counts .ensures) (c .before .before .put-byte .ensures))
+    let at-put-byte-arg = c .before .before .before in
+    let at-put-counts = at-put-byte-arg .before .before .before in
+    let at-put-net = at-put-counts .before .before .before .before in
+    let at-put-prices = at-put-net .before .before .before .before in
+    let at-put-symbol = at-put-prices .before .before .before .before in
+    let start = at-put-symbol .before .before .before .before in
+    let w = start .args .shown in
+    from-start (row-put w (at-put-symbol .put-symbol .ensures) (at-put-prices .put-prices .ensures) (at-put-net .put-net .ensures)
+    (at-put-counts .put-counts .ensures) (c .before .before .put-byte .ensures))
 
 pub row-spec : {M : Type 1} → statement M
 row-spec =

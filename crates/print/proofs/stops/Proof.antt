@@ -28,7 +28,10 @@ same-length c = search needs
 
 returns : tie.Need-returns
 unfolding stopText
-returns c = from-start (then (c .before .before .before .before .before .before .put-named .ensures) (byte (c .before .before .put-byte .ensures)))
+returns c =
+    let at-put-byte-arg = c .before .before .before in
+    let at-put-named = at-put-byte-arg .before .before .before in
+    from-start (then (at-put-named .put-named .ensures) (byte (c .before .before .put-byte .ensures)))
 
 pub stops-spec : {M : Type 1} → statement M
 stops-spec =

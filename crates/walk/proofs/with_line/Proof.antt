@@ -2,8 +2,8 @@
 -- Assumes nothing.
 use mathlib.Core.Path.{ap}
 use native.Mathlib.Omega.{arith}
-use Rattle.walk.specs.declared.Figures.{Figures}
-use Rattle.walk.specs.Figures.{sold}
+use Rattle.figures.specs.declared.Figures.{Figures}
+use Rattle.figures.specs.Figures.{sold}
 use Rattle.walk.proofs.Laws.{dealt-read}
 use borrow.Author.Needs.{needs}
 use Rattle.walk.proofs.with_line.Statement.{statement}
@@ -45,10 +45,17 @@ with-sale-requires c κs = search needs
 returns : tie.Need-returns
 unfolding sold
 returns c =
-    let s = c .before .before .before .before .before .before .before .before .before in
+    let at-number42 = c .before .before .before in
+    let at-number4 = at-number42 .before in
+    let at-fill = at-number4 .before .before in
+    let s = at-fill .before .before .before in
     let v = ap (λ (r : Figures). r .volume) (c .with-sale .ensures) in
-    let n = ap (λ (r : Figures). r .count) (c .with-sale .ensures) in
-    (dealt-read (s .args .lines .now) (s .args .t) _ (s .args .at) _ _ _ _ _ (c .before .before .before .before .before .before .fill .ensures) (c .before .before .before .before .number4 .ensures) (c .before .before .before .number42 .ensures) (c .before .before .number43 .ensures) (c .before .condition-marks .ensures) (c .with-sale .ensures), omega (arith, v, n, c .before .before .before .number42 .ok))
+    let n = ap (λ (r : Figures). r .count) (c .with-sale .ensures) in (
+      dealt-read (s .args .lines .now) (s .args .t) _ (s .args .at) _ _ _ _ _ (at-fill .fill .ensures) (at-number4 .number4 .ensures)
+          (at-number42 .number42 .ensures) (c .before .before .number43 .ensures) (c .before .condition-marks .ensures)
+          (c .with-sale .ensures),
+      omega (arith, v, n, at-number42 .number42 .ok),
+    )
 
 pub with-line-spec : {M : Type 1} → statement M
 with-line-spec =

@@ -1,6 +1,6 @@
 -- `walk::with_sale` meets its contract.
 -- Assumes nothing.
-use Rattle.walk.specs.Figures.{sold}
+use Rattle.figures.specs.Figures.{sold}
 use borrow.Author.Needs.{needs}
 use Rattle.walk.proofs.with_sale.Statement.{statement}
 use Rattle.walk.proofs.with_sale.Tie as tie

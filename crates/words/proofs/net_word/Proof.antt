@@ -1,7 +1,7 @@
 -- `words::net_word` meets its contract.
 -- Assumes nothing.
 use mathlib.Core.Path.{ap, sym, _∙_}
-use Rattle.decimal.proofs.Signed.{held-is}
+use Rattle.numbers.proofs.Signed.{held-is}
 use Rattle.words.specs.Words as W
 use borrow.Author.Needs.{needs}
 use Rattle.words.proofs.net_word.Statement.{statement}

@@ -8,7 +8,7 @@ use mir.Val.{Fits}
 use Rattle.octets.proofs.Trips.{whole}
 use Rattle.words.specs.Words as W
 use Rattle.words.specs.Fits.{RowFits}
-use Rattle.words.proofs.Fitting.{net-good}
+use Rattle.show.proofs.Fitting.{net-good}
 use borrow.Author.Needs.{needs}
 use Rattle.words.proofs.put_row.Statement.{statement}
 use Rattle.words.proofs.put_row.Tie as tie
@@ -22,7 +22,12 @@ symbol-byte c i = search needs
 -- the row that a call brings fits its types
 pub entered : (c : tie.Start) → RowFits (c .args .r)
 entered c =
-    record { symbol = symbol-long c; bytes = λ i. symbol-byte c i .fits; net = net-good (c .args .r .net) _ (c .good .1 .0 .1 .1 .1 .1 .1 .1 .1 .0) }
+    record {
+      symbol = symbol-long c;
+      bytes = λ i. symbol-byte c i .fits;
+      net = net-good (c .args .r .net) _
+          (c .good .1 .0 .1 .1 .1 .1 .1 .1 .1 .0);
+    }
 
 slice-aggregate-number8 : tie.Need-slice-aggregate-number8
 slice-aggregate-number8 c = search needs
@@ -69,8 +74,32 @@ reported-word-requires c κs = search needs
 returns : tie.Need-returns
 unfolding W.rowWords
 returns c =
-    let s = c .before .before .before .before .before .before .before .before .before .before .before .before .before .before .before .before in
-    simp (c .before .reported-word .ensures, c .before .before .reported-mark .ensures, c .before .before .before .agrees-word .ensures, c .before .before .before .before .net-word .ensures, c .before .before .before .before .before .net-mark .ensures, c .before .before .before .before .before .before .price-word3 .ensures, c .before .before .before .before .before .before .before .price-mark3 .ensures, c .before .before .before .before .before .before .before .before .price-word2 .ensures, c .before .before .before .before .before .before .before .before .before .price-mark2 .ensures, c .before .before .before .before .before .before .before .before .before .before .price-word .ensures, c .before .before .before .before .before .before .before .before .before .before .before .price-mark .ensures, c .before .before .before .before .before .before .before .before .before .before .before .before .before .number8 .ensures, whole (s .args .r .symbol) 8 (symbol-long s))
+    let at-agrees-word = c .before .before .before in
+    let at-net-word = at-agrees-word .before in
+    let at-net-mark = at-net-word .before in
+    let at-price-word3 = at-net-mark .before in
+    let at-price-mark3 = at-price-word3 .before in
+    let at-price-word2 = at-price-mark3 .before in
+    let at-price-mark2 = at-price-word2 .before in
+    let at-price-word = at-price-mark2 .before in
+    let at-price-mark = at-price-word .before in
+    let at-number8 = at-price-mark .before .before in
+    let s = at-number8 .before .before .before in
+    simp (
+      c .before .reported-word .ensures,
+      c .before .before .reported-mark .ensures,
+      at-agrees-word .agrees-word .ensures,
+      at-net-word .net-word .ensures,
+      at-net-mark .net-mark .ensures,
+      at-price-word3 .price-word3 .ensures,
+      at-price-mark3 .price-mark3 .ensures,
+      at-price-word2 .price-word2 .ensures,
+      at-price-mark2 .price-mark2 .ensures,
+      at-price-word .price-word .ensures,
+      at-price-mark .price-mark .ensures,
+      at-number8 .number8 .ensures,
+      whole (s .args .r .symbol) 8 (symbol-long s),
+    )
 
 pub put-row-spec : {M : Type 1} → statement M
 put-row-spec =

@@ -1,7 +1,7 @@
 -- `words::signed_word` meets its contract.
 -- Assumes nothing.
 use native.Mathlib.Omega.{arith}
-use Rattle.decimal.proofs.Signed.{left-fits, left-casts, left-below, casts}
+use Rattle.numbers.proofs.Signed.{left-fits, left-casts, left-below, casts}
 use Rattle.words.proofs.Signed.{below-word, above-word}
 use Rattle.words.proofs.signed_word.Statement.{statement}
 use Rattle.words.proofs.signed_word.Tie as tie

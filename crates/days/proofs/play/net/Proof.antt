@@ -1,6 +1,6 @@
 -- `days::play::net` meets its contract.
 -- Assumes nothing.
-use Rattle.days.proofs.Signed.{left-fits, left-casts, left-adds, casts, fits-again}
+use Rattle.numbers.proofs.Signed.{left-fits, left-casts, left-adds, casts}
 use borrow.Author.Needs.{needs}
 use Rattle.days.proofs.play.net.Statement.{statement}
 use Rattle.days.proofs.play.net.Tie as tie
@@ -21,13 +21,13 @@ slice-aggregate-field : tie.Need-slice-aggregate-field
 slice-aggregate-field c = search needs
 
 sub-field : tie.Need-sub-field
-sub-field c = left-fits _ (fits-again (c .before .before .before .n .given .0 .0) (c .before .before .known-told .given .0 .1)) (c .before .if1 .taken)
+sub-field c = left-fits (c .before .before .before .n .given .0 .0) (c .before .before .known-told .given .0 .1) (c .before .if1 .taken)
 
 cast-field : tie.Need-cast-field
-cast-field c = left-casts _ (fits-again (c .before .before .before .n .given .0 .0) (c .before .before .known-told .given .0 .1)) (c .before .if1 .taken)
+cast-field c = left-casts (c .before .before .before .n .given .0 .0) (c .before .before .known-told .given .0 .1) (c .before .if1 .taken)
 
 add-field : tie.Need-add-field
-add-field c = left-adds _ (fits-again (c .before .before .before .n .given .0 .0) (c .before .before .known-told .given .0 .1)) (c .before .if1 .taken)
+add-field c = left-adds (c .before .before .before .n .given .0 .0) (c .before .before .known-told .given .0 .1) (c .before .if1 .taken)
 
 field-requires : tie.Need-field-requires
 field-requires c κs = search needs
@@ -48,7 +48,9 @@ slice-aggregate-field-2 : tie.Need-slice-aggregate-field-2
 slice-aggregate-field-2 c = search needs
 
 cast-field-2 : tie.Need-cast-field-2
-cast-field-2 c = casts _ (fits-again (c .before .before .before .before .n .given .0 .0) (c .before .before .before .known-told .given .0 .1)) (c .before .before .if1 .left)
+cast-field-2 c =
+    casts (c .before .before .before .before .n .given .0 .0) (c .before .before .before .known-told .given .0 .1)
+    (c .before .before .if1 .left)
 
 field-requires-2 : tie.Need-field-requires-2
 field-requires-2 c κs = search needs

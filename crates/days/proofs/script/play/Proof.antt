@@ -8,7 +8,8 @@ use Rattle.days.proofs.script.play.Statement.{statement}
 use Rattle.days.proofs.script.play.Tie as tie
 
 abbrev Inv-loop : tie.InvT-loop
-Inv-loop text rows₀ lines₀ space₀ day₀ pen₀ i₀ rows lines space day pen i = (i ≤ length text) × (length rows ≡ length rows₀) × (length lines ≡ length lines₀) × (length space ≡ length space₀)
+Inv-loop text rows₀ lines₀ space₀ day₀ pen₀ i₀ rows lines space day pen i =
+    (i ≤ length text) × (length rows ≡ length rows₀) × (length lines ≡ length lines₀) × (length space ≡ length space₀)
 
 abbrev μ-loop : tie.MeasureT-loop
 μ-loop text rows₀ lines₀ space₀ day₀ pen₀ i₀ rows lines space day pen i = length text - i

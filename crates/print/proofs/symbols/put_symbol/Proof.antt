@@ -33,16 +33,22 @@ paste-requires : tie.Need-paste-requires
 paste-requires c κs = search needs
 
 add-result : tie.Need-add-result
-add-result c = omega (arith, c .before .before .before .before .before .unpadded .ensures, unpadded-short (c .before .before .before .before .before .before .before .before .args .t3), symbol-long (c .before .before .before .before .before .before .before .before), c .before .before .before .before .before .before .before .before .pre)
+add-result c =
+    let at-unpadded = c .before .before .before .before .before in
+    let start = at-unpadded .before .before .before in
+    omega (arith, at-unpadded .unpadded .ensures, unpadded-short (start .args .t3), symbol-long (start), start .pre)
 
 same-length : tie.Need-same-length
 same-length c = search needs
 
 returns : tie.Need-returns
 returns c =
-    let a = c .before .before .before .before .before .before .before .before .args in
-    let u = c .before .before .before .before .before .unpadded in
-    run 8 (c .before .before .paste .ensures ∙ ap (sets (a .out .now) (a .at)) (unpadded-front (a .t3) (u .result) (u .ensures))) (ap (λ (k : ℕ). a .at + k) (u .ensures)) (omega (arith, unpadded-short (a .t3), symbol-long (c .before .before .before .before .before .before .before .before)))
+    let at-unpadded = c .before .before .before .before .before in
+    let start = at-unpadded .before .before .before in
+    let a = start .args in
+    let u = at-unpadded .unpadded in
+    run 8 (c .before .before .paste .ensures ∙ ap (sets (a .out .now) (a .at)) (unpadded-front (a .t3) (u .result) (u .ensures)))
+    (ap (λ (k : ℕ). a .at + k) (u .ensures)) (omega (arith, unpadded-short (a .t3), symbol-long (start)))
 
 pub put-symbol-spec : {M : Type 1} → statement M
 put-symbol-spec =

@@ -31,7 +31,8 @@ returns c =
     let a = c .before .before .before .before .args in
     let l = c .before .before .before .loop in
     let h = l .inv .0 in
-    sym (length-take-le (l .k) (a .s .now) h) ∙ ap length (sym (pad-stop (a .s .now) (l .k) (c .before .before .loop-test .taken) h (c .if1 .taken)) ∙ l .inv .1)
+    sym (length-take-le (l .k) (a .s .now) h)
+    ∙ ap length (sym (pad-stop (a .s .now) (l .k) (c .before .before .loop-test .taken) h (c .if1 .taken)) ∙ l .inv .1)
 
 sub-k : tie.Need-sub-k Inv-loop μ-loop
 sub-k c = search needs

@@ -8,7 +8,8 @@ use Rattle.wall.proofs.input.all.Statement.{statement}
 use Rattle.wall.proofs.input.all.Tie as tie
 
 abbrev Inv-loop : tie.InvT-loop
-Inv-loop rows₀ lines₀ piece₀ reading₀ turns₀ rows lines piece reading turns = (4096 ≡ length piece) × (reading .held ≤ 71) × (length rows ≡ length rows₀) × (length lines ≡ length lines₀)
+Inv-loop rows₀ lines₀ piece₀ reading₀ turns₀ rows lines piece reading turns =
+    (4096 ≡ length piece) × (reading .held ≤ 71) × (length rows ≡ length rows₀) × (length lines ≡ length lines₀)
 
 abbrev μ-loop : tie.MeasureT-loop
 μ-loop rows₀ lines₀ piece₀ reading₀ turns₀ rows lines piece reading turns = turns

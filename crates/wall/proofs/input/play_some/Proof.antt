@@ -41,9 +41,15 @@ same-length-6 c = search needs
 
 returns-2 : tie.Need-returns-2
 returns-2 c =
-    let a = c .before .before .before .before .before .before .before .before .before .before .before .before .before .before .before .before .args in
-    let f = c .before .before .before .before .before .before .before .before .before .feed in
-    (held-fits (f .result) (stateOf (a .c) (a .rows .now) (a .lines .now)) (a .n) (a .piece .now) (f .ensures .0) (c .match .keys2), search needs)
+    let at-slice-known5 = c .before .before .before .before .before in
+    let at-feed = at-slice-known5 .before .before .before .before in
+    let at-slice-known3 = at-feed .before .before .before .before in
+    let start = at-slice-known3 .before .before .before in
+    let a = start .args in
+    let f = at-feed .feed in (
+      held-fits (f .result) (stateOf (a .c) (a .rows .now) (a .lines .now)) (a .n) (a .piece .now) (f .ensures .0) (c .match .keys2),
+      search needs,
+    )
 
 pub play-some-spec : {M : Type 1} → statement M
 play-some-spec =
