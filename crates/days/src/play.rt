@@ -2,11 +2,12 @@
 use crate::rooms;
 use crate::tell;
 use book::Said;
-use book::counters::Counters;
+use counters::Counters;
 use libc::STDOUT_FILENO;
 use numbers::number4;
 use numbers::number8;
 use octets::run;
+use rows::Listing;
 use rows::Reported;
 use show::Net;
 use show::RowShown;
@@ -14,7 +15,11 @@ use walk::Price;
 ghost use Rattle.io.specs.Counts.{Counts};
 
 pub fn list(c: Counters, rows: &mut [u8], lines: &[u8], code: &[u8]) -> Counters {
-    let said = book::list(c, rows, lines, symbol(code), number4(code, 9));
+    let l = Listing {
+        symbol: symbol(code),
+        close: number4(code, 9),
+    };
+    let said = book::list(c, rows, lines, l);
     after(said, rows, lines)
 }
 

@@ -11,7 +11,7 @@ use crate::form::Pen;
 use crate::play;
 use crate::rooms;
 use crate::tell;
-use book::counters::Counters;
+use counters::Counters;
 use numbers::number8;
 use octets::run;
 

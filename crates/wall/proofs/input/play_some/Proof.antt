@@ -1,6 +1,6 @@
 -- `wall::input::play_some` meets its contract.
 -- Assumes nothing.
-use Rattle.tape.specs.Playing.{stateOf}
+use Rattle.book.specs.State.{lent}
 use Rattle.wall.proofs.Stops.{held-fits}
 use borrow.Author.Needs.{needs}
 use Rattle.wall.proofs.input.play_some.Statement.{statement}
@@ -41,9 +41,11 @@ same-length-6 c = search needs
 
 returns-2 : tie.Need-returns-2
 returns-2 c =
-    let a = c .before .before .before .before .before .before .before .before .before .before .before .before .before .before .before .before .args in
-    let f = c .before .before .before .before .before .before .before .before .before .feed in
-    (held-fits (f .result) (stateOf (a .c) (a .rows .now) (a .lines .now)) (a .n) (a .piece .now) (f .ensures .0) (c .match .keys2), search needs)
+    let called = c .before .before .before .before .before .before .before .before .before in
+    let s = called .before .before .before .before .before .before .before in
+    let a = s .args in
+    let f = called .feed in
+    (held-fits (f .result) _ _ _ (lent (a .c) (a .rows .now) (a .lines .now)) (a .n) (a .piece .now) (f .ensures) (c .match .keys2), search needs)
 
 pub play-some-spec : {M : Type 1} → statement M
 play-some-spec =
