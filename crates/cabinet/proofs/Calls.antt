@@ -16,7 +16,8 @@ use Rattle.cabinet.specs.Crossing.{stateOf, crossed, crossing}
 -- an answer and words that are those of what a call told, with its rooms, are its outcome as it crosses
 told-crosses : (s : Said) (a : ℕ) (w rows lines : List ℕ) → a ≡ numberOf (s .answer) → w ≡ counterWords (s .counters)
     → crossed a w rows lines ≡ crossing (leaving s rows lines)
-told-crosses s a w rows lines n p = ap (λ (x : ℕ). crossed x w rows lines) n ∙ ap (λ (x : List ℕ). crossed (numberOf (s .answer)) x rows lines) p
+told-crosses s a w rows lines n p =
+    ap (λ (x : ℕ). crossed x w rows lines) n ∙ ap (λ (x : List ℕ). crossed (numberOf (s .answer)) x rows lines) p
 
 module _ (w rows lines : List ℕ) (c : Counters) (e : c ≡ countersOf w) where
   state-is : lent c rows lines ≡ stateOf w rows lines

@@ -70,7 +70,8 @@ pub write-one : (κs : Lfts 2) (a : ArgsD write.signature κs) (r r′ : ℕ) (s
     → write-reads.Learnt κs a r s → write-reads.Learnt κs a r′ s′ → (r ≡ r′) × (now (s .1 .0) ≡ now (s′ .1 .0))
 write-one κs a r r′ s s′ h h′ = (h .0 ∙ sym (h′ .0), h .1 ∙ sym (h′ .1))
 
-pub size-one : (which which₁ which₂ r r′ : ℕ) → size-reads.Learnt tt (which, tt) r (which₁, tt) → size-reads.Learnt tt (which, tt) r′ (which₂, tt) → r ≡ r′
+pub size-one : (which which₁ which₂ r r′ : ℕ) → size-reads.Learnt tt (which, tt) r (which₁, tt)
+    → size-reads.Learnt tt (which, tt) r′ (which₂, tt) → r ≡ r′
 size-one which which₁ which₂ r r′ h h′ = h ∙ sym h′
 
 -- ---- there and back, of calls

@@ -38,7 +38,8 @@ module _ (w rows lines : List ℕ) where
 
   module _ (a : Arrival) where
     -- whatever refused it, no row and no line is changed
-    pub deliver-kept : (delivered here a .answer ≡ 0 → ⊥) → (delivered here a .state .rows ≡ rows) × (delivered here a .state .lines ≡ lines)
+    pub deliver-kept : (delivered here a .answer ≡ 0 → ⊥)
+        → (delivered here a .state .rows ≡ rows) × (delivered here a .state .lines ≡ lines)
     deliver-kept z = refused-keeps here .deliver a z
 
     -- in an unsound book, or at any number but the wanted one, no word is changed either
@@ -46,7 +47,8 @@ module _ (w rows lines : List ℕ) where
         → counterWords (delivered here a .state .counters) ≡ w
     deliver-unused k h = ap (λ (s : State). counterWords (s .counters)) (refused-keeps here .unused a h .1) ∙ words-again w k
 
-  pub row-cleared : (symbol : List ℕ) → (numberOf (shown here symbol .answer) ≡ 0 → ⊥) → rowWords (shown here symbol .row) ≡ replicate rowCount 0
+  pub row-cleared : (symbol : List ℕ) → (numberOf (shown here symbol .answer) ≡ 0 → ⊥)
+      → rowWords (shown here symbol .row) ≡ replicate rowCount 0
   row-cleared symbol z = ap rowWords (refused-keeps here .row symbol z) ∙ nothing-words
 
 pub read-cleared : (m : List ℕ) → (numberOf (readOf m .answer) ≡ 0 → ⊥) → recordBytes (readOf m .found) ≡ replicate 80 0

@@ -1,5 +1,6 @@
-// The library as C and Rust link it. Every function takes any counters, any bytes and any slices, and asks nothing of its caller. All but
-// `sorundappa_start`, which answers nothing, and `sorundappa_size`, which tells a size, answer a number of document 01's table.
+// The library as C and Rust link it. Every function takes any counters, any bytes and any slices, and asks nothing of
+// its caller. All but `sorundappa_start`, which answers nothing, and `sorundappa_size`, which tells a size, answer a
+// number of document 01's table.
 // `include/sorundappa.h` says the same in C.
 use answers::Answer;
 use rows::Listing;
@@ -103,9 +104,11 @@ pub extern "C" fn sorundappa_row(
     row: &mut [u64; words::ROW],
 ) -> u8
     ensures answer { λ a. ⌜ a
-        ≡ numberOf (shown (stateOf (now (counters .entry)) (now (rows .entry)) (now (lines .entry))) (now (symbol .entry)) .answer) ⌝ }
+        ≡ numberOf (shown (stateOf (now (counters .entry)) (now (rows .entry)) (now (lines .entry)))
+        (now (symbol .entry)) .answer) ⌝ }
     ensures row { λ a. ⌜ now (row .exit)
-        ≡ rowWords (shown (stateOf (now (counters .entry)) (now (rows .entry)) (now (lines .entry))) (now (symbol .entry)) .row) ⌝ }
+        ≡ rowWords (shown (stateOf (now (counters .entry)) (now (rows .entry)) (now (lines .entry)))
+        (now (symbol .entry)) .row) ⌝ }
 {
     let name = *symbol;
     let c = words::counters(counters);

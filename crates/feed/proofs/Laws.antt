@@ -35,7 +35,8 @@ first-of n m = go (leb n (length m)) refl
 part-of : (m : List ℕ) (u k : ℕ) → u ≤ k → k ≤ length m → part m u (k - u) ≡ drop u (take k m)
 part-of m u k h f =
     let n : length (take k m) ≡ k = length-take-le k m f in
-    let d : drop u m ≡ drop u (take k m) ++ drop k m = ap (drop u) (sym (take-append-drop k m)) ∙ drop-append-le u (take k m) (drop k m) (omega arith) in
+    let d : drop u m ≡ drop u (take k m) ++ drop k m
+    = ap (drop u) (sym (take-append-drop k m)) ∙ drop-append-le u (take k m) (drop k m) (omega arith) in
     here m u (k - u) (drop u (take k m)) (drop k m) d (length-drop u (take k m) ∙ ap (λ (x : ℕ). x - u) n)
 
 module _ (s : State) (n : ℕ) (m : List ℕ) (k : ℕ) (is : k ≡ min n (length m)) (p : Played) (rows lines : List ℕ)
@@ -56,7 +57,8 @@ module _ (s : State) (n : ℕ) (m : List ℕ) (k : ℕ) (is : k ≡ min n (lengt
   left-is = ap (drop (p .used)) brought ∙ ap (λ (x : Play). drop (x .used) (take n m)) play-is
 
   held-is : k - p .used ≡ length (leftOver s (take n m))
-  held-is = ap (λ (x : ℕ). x - p .used) (sym (length-take-le k m (omega arith))) ∙ sym (length-drop (p .used) (take k m)) ∙ ap length left-is
+  held-is =
+      ap (λ (x : ℕ). x - p .used) (sym (length-take-le k m (omega arith))) ∙ sym (length-drop (p .used) (take k m)) ∙ ap length left-is
 
   moved : (out : List ℕ) → out ≡ sets m 0 (part m (p .used) (k - p .used)) → out ≡ sets m 0 (leftOver s (take n m))
   moved out h = h ∙ ap (sets m 0) (part-of m (p .used) k used-fits (omega arith) ∙ left-is)

@@ -1,5 +1,5 @@
-// A tape of any length, played in pieces as they come: what a piece leaves over is moved to its front, and the next is read
-// behind it.
+// A tape of any length, played in pieces as they come: what a piece leaves over is moved to its front, and the next is
+// read behind it.
 use counters::Counters;
 use numbers::lesser;
 use octets::run::to_front;

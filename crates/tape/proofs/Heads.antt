@@ -80,14 +80,16 @@ module _ (k : ℕ) (other : k ≡ listingLetter → ⊥) (type : Kind) (e : type
 
   pub some-is : (n ≡ 0 → ⊥) → numberBytes + n ≡ bodyLength k
   unfolding bodyLength
-  some-is z = simp (ne-eqb k listingLetter other, ne-eqb (messageLength k) 0 (λ q. z (length-is ∙ q))) (ap (λ (i : ℕ). numberBytes + i) length-is)
+  some-is z =
+      simp (ne-eqb k listingLetter other, ne-eqb (messageLength k) 0 (λ q. z (length-is ∙ q))) (ap (λ (i : ℕ). numberBytes + i) length-is)
 
 -- a body has 10 to 71 bytes
 pub body-some : (k : ℕ) → (bodyLength k ≡ 0 → ⊥) → (10 ≤ bodyLength k) × (bodyLength k ≤ 71)
 unfolding bodyLength
 body-some k z = go (eqb k 76) refl (eqb (messageLength k) 0) refl (length-some (kindOf k))
   where
-    go : (t : Bool) → eqb k 76 ≡ t → (u : Bool) → eqb (messageLength k) 0 ≡ u → Some (messageLength k) → (10 ≤ bodyLength k) × (bodyLength k ≤ 71)
+    go : (t : Bool) → eqb k 76 ≡ t → (u : Bool) → eqb (messageLength k) 0 ≡ u → Some (messageLength k)
+        → (10 ≤ bodyLength k) × (bodyLength k ≤ 71)
     go true t u v w = rw t (lit≤ tt, lit≤ tt)
     go false t true v w = absurd (z (rw (t, v)))
     go false t false v (inl w) = absurd (eqb-false (messageLength k) 0 v w)

@@ -72,7 +72,8 @@ short-head (k ∷ s) e = go (eqb (bodyLength k) 0) refl (leb (bodyLength k) (len
   where
     go : (t : Bool) → eqb (bodyLength k) 0 ≡ t → (u : Bool) → leb (bodyLength k) (length s) ≡ u → suc (length s) < 72
     go true t u v = let f : Stops NoKind ≡ Stops CutShort = rw t at e in let z : _≡_ {A = ℕ} 0 1 = cc in absurd (omega arith)
-    go false t true v = let f : Whole (suc (bodyLength k)) ≡ Stops CutShort = rw (t, v) at e in let z : _≡_ {A = ℕ} 0 1 = cc in absurd (omega arith)
+    go false t true v =
+        let f : Whole (suc (bodyLength k)) ≡ Stops CutShort = rw (t, v) at e in let z : _≡_ {A = ℕ} 0 1 = cc in absurd (omega arith)
     go false t false v = omega (arith, leb-false (bodyLength k) (length s) v, body-some k (eqb-false (bodyLength k) 0 t))
 
 -- nothing left
@@ -83,7 +84,8 @@ ended-head (k ∷ s) e = go (eqb (bodyLength k) 0) refl (leb (bodyLength k) (len
   where
     go : (t : Bool) → eqb (bodyLength k) 0 ≡ t → (u : Bool) → leb (bodyLength k) (length s) ≡ u → k ∷ s ≡ []
     go true t u v = let f : Stops NoKind ≡ Stops Ended = rw t at e in let z : _≡_ {A = ℕ} 0 1 = cc in absurd (omega arith)
-    go false t true v = let f : Whole (suc (bodyLength k)) ≡ Stops Ended = rw (t, v) at e in let z : _≡_ {A = ℕ} 0 1 = cc in absurd (omega arith)
+    go false t true v =
+        let f : Whole (suc (bodyLength k)) ≡ Stops Ended = rw (t, v) at e in let z : _≡_ {A = ℕ} 0 1 = cc in absurd (omega arith)
     go false t false v = let f : Stops CutShort ≡ Stops Ended = rw (t, v) at e in let z : _≡_ {A = ℕ} 0 1 = cc in absurd (omega arith)
 
 pub left-short : (s : State) (b : List ℕ) → played s b .stop ≡ CutShort → length (drop (played s b .used) b) < 72
@@ -117,7 +119,8 @@ no-kind-more (k ∷ s) b e = go (eqb (bodyLength k) 0) refl (leb (bodyLength k) 
   where
     go : (t : Bool) → eqb (bodyLength k) 0 ≡ t → (u : Bool) → leb (bodyLength k) (length s) ≡ u → headOf (k ∷ (s ++ b)) ≡ Stops NoKind
     go true t u v = rw t
-    go false t true v = let f : Whole (suc (bodyLength k)) ≡ Stops NoKind = rw (t, v) at e in let z : _≡_ {A = ℕ} 0 1 = cc in absurd (omega arith)
+    go false t true v =
+        let f : Whole (suc (bodyLength k)) ≡ Stops NoKind = rw (t, v) at e in let z : _≡_ {A = ℕ} 0 1 = cc in absurd (omega arith)
     go false t false v = let f : Stops CutShort ≡ Stops NoKind = rw (t, v) at e in let z : _≡_ {A = ℕ} 0 1 = cc in absurd (omega arith)
 
 -- a play of a that is gone on with, b being behind what it left over
@@ -149,7 +152,9 @@ append-for zero s (x ∷ a) b l = absurd (omega arith)
 append-for (suc k) s a b l = go (headOf a) refl (λ n e. append-for k (acted s (entryOf (take n a))) (drop n a) b (shorter a n k e l))
   where
     go : (h : Head) → headOf a ≡ h
-        → ((n : ℕ) → headOf a ≡ Whole n → played (acted s (entryOf (take n a))) (drop n a ++ b) ≡ goneOn (played (acted s (entryOf (take n a))) (drop n a)) (drop n a) b)
+        →
+        ((n : ℕ) → headOf a ≡ Whole n → played (acted s (entryOf (take n a))) (drop n a ++ b) ≡ goneOn
+        (played (acted s (entryOf (take n a))) (drop n a)) (drop n a) b)
         → played s (a ++ b) ≡ goneOn (played s a) a b
     go (Stops w) e r = append-here s a b w e
     go (Whole n) e r = append-later s a b n e (r n e)

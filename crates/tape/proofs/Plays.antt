@@ -29,7 +29,8 @@ rest-all b at =
     let l : length (drop at b) ≤ length b - at = omega (arith, length-drop at b) in
     take-all (length b - at) (drop at b) l
 
-listing-is : (b symbol : List ℕ) (close : ℕ) → symbol ≡ part b 1 8 → close ≡ be (part b 9 4) → record { symbol = symbol; close = close } ≡ listingIn b
+listing-is : (b symbol : List ℕ) (close : ℕ) → symbol ≡ part b 1 8 → close ≡ be (part b 9 4)
+    → record { symbol = symbol; close = close } ≡ listingIn b
 listing-is b symbol close e f = rw (e, f)
 
 arrival-is : (b : List ℕ) (number : ℕ) (m : List ℕ) → number ≡ be (part b 1 4) → m ≡ drop 5 b → arrives number m ≡ arrivalIn b
@@ -39,7 +40,8 @@ module _ (s : State) (b : List ℕ) where
   pub listing-acted : (symbol : List ℕ) (close : ℕ) → symbol ≡ part b 1 8 → close ≡ be (part b 9 4) → (o : Outcome)
       → o ≡ listed s (record { symbol = symbol; close = close }) → o .state ≡ acted s (Lists (listingIn b))
   unfolding acted
-  listing-acted symbol close e f o h = ap (λ (x : Outcome). x .state) h ∙ ap (λ (l : Listing). listed s l .state) (listing-is b symbol close e f)
+  listing-acted symbol close e f o h =
+      ap (λ (x : Outcome). x .state) h ∙ ap (λ (l : Listing). listed s l .state) (listing-is b symbol close e f)
 
   pub message-acted : (number : ℕ) (m : List ℕ) → number ≡ be (part b 1 4) → m ≡ drop 5 b → (o : Outcome)
       → o ≡ delivered s (arrives number m) → o .state ≡ acted s (delivery b)
@@ -68,10 +70,13 @@ enough zero (suc j) s [] l m = refl
 enough zero (suc j) s (x ∷ b) l m = absurd (omega arith)
 enough (suc k) zero s [] l m = refl
 enough (suc k) zero s (x ∷ b) l m = absurd (omega arith)
-enough (suc k) (suc j) s b l m = go (headOf b) refl (λ n e. enough k j (acted s (entryOf (take n b))) (drop n b) (shorter b n k e l) (shorter b n j e m))
+enough (suc k) (suc j) s b l m =
+    go (headOf b) refl (λ n e. enough k j (acted s (entryOf (take n b))) (drop n b) (shorter b n k e l) (shorter b n j e m))
   where
     go : (h : Head) → headOf b ≡ h
-        → ((n : ℕ) → headOf b ≡ Whole n → playSome k (acted s (entryOf (take n b))) (drop n b) ≡ playSome j (acted s (entryOf (take n b))) (drop n b))
+        →
+        ((n : ℕ) → headOf b ≡ Whole n → playSome k (acted s (entryOf (take n b))) (drop n b) ≡ playSome j
+        (acted s (entryOf (take n b))) (drop n b))
         → playSome (suc k) s b ≡ playSome (suc j) s b
     go (Stops w) e r = rw e
     go (Whole n) e r = rw e (ap (further n) (r n e))
@@ -83,7 +88,8 @@ unfolding played playSome headOf
 play-stops s [] w e = let f : Ended ≡ w = cc in ap (stopped s) f
 play-stops s (x ∷ b) w e = rw e
 
-pub play-whole : (s : State) (b : List ℕ) (n : ℕ) → headOf b ≡ Whole n → played s b ≡ further n (played (acted s (entryOf (take n b))) (drop n b))
+pub play-whole : (s : State) (b : List ℕ) (n : ℕ) → headOf b ≡ Whole n
+    → played s b ≡ further n (played (acted s (entryOf (take n b))) (drop n b))
 unfolding played playSome headOf
 play-whole s [] n e = absurd (never e)
 play-whole s (x ∷ b) n e =

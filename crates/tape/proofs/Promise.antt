@@ -27,7 +27,8 @@ told-same r r′ rows lines rows′ lines′ p h h′ =
     (ap (λ (x : Play). x .used) e)
     (ap (λ (x : Play). x .stop) e)
   where
-    same : (c : Counters) (n : ℕ) (w : Stop) → c ≡ r′ .counters → n ≡ r′ .used → w ≡ r′ .stop → record { counters = c; used = n; stop = w } ≡ r′
+    same : (c : Counters) (n : ℕ) (w : Stop) → c ≡ r′ .counters → n ≡ r′ .used → w ≡ r′ .stop
+        → record { counters = c; used = n; stop = w } ≡ r′
     same c n w e f g = rw (e, f, g)
 
 module _ (κs : Lfts 3) (a : ArgsD play.signature κs) where

@@ -104,7 +104,8 @@ Sized (Delivers kind a) = (length (a .message) ≡ messageLength kind) × (0 < m
 
 unfoldable pub headOf : List ℕ → Head
 headOf [] = Stops Ended
-headOf (k ∷ s) = cond (eqb (bodyLength k) 0) (Stops NoKind) (cond (leb (bodyLength k) (length s)) (Whole (suc (bodyLength k))) (Stops CutShort))
+headOf (k ∷ s) =
+    cond (eqb (bodyLength k) 0) (Stops NoKind) (cond (leb (bodyLength k) (length s)) (Whole (suc (bodyLength k))) (Stops CutShort))
 
 -- the entry that all of these bytes are
 abbrev pub listingIn : List ℕ → Listing

@@ -1,4 +1,5 @@
-// Playing a part of a tape on a book. A tape of any length is played part by part: what a part leaves over goes before the next.
+// Playing a part of a tape on a book. A tape of any length is played part by part: what a part leaves over goes before
+// the next.
 mod entries;
 
 use counters::Counters;

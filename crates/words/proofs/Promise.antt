@@ -26,7 +26,8 @@ module _ (κs : Lfts 1) (a : ArgsD counters.signature κs) where
   counters-one r r′ s s′ h h′ = h ∙ sym h′
 
   -- what a caller is told, and nothing else
-  pub counters-says : (r : Counters) (s : AtExit (endedOf 1 counters-kinds.ps counters-kinds.r) κs) → counters-reads.Learnt κs a r s ≡ (r ≡ countersOf (now (a .0)))
+  pub counters-says : (r : Counters) (s : AtExit (endedOf 1 counters-kinds.ps counters-kinds.r) κs)
+      → counters-reads.Learnt κs a r s ≡ (r ≡ countersOf (now (a .0)))
   counters-says r s = refl
 
 module _ (κs : Lfts 1) (a : ArgsD put-counters.signature κs) where
@@ -43,5 +44,6 @@ module _ (κs : Lfts 1) (a : ArgsD put-row.signature κs) where
       → put-row-reads.Learnt κs a r s → put-row-reads.Learnt κs a r′ s′ → now (s .0) ≡ now (s′ .0)
   put-row-one r r′ s s′ h h′ = h ∙ sym h′
 
-  pub put-row-says : (r : Unit) (s : AtExit (endedOf 1 put-row-kinds.ps put-row-kinds.r) κs) → put-row-reads.Learnt κs a r s ≡ (now (s .0) ≡ rowWords (a .1 .0))
+  pub put-row-says : (r : Unit) (s : AtExit (endedOf 1 put-row-kinds.ps put-row-kinds.r) κs)
+      → put-row-reads.Learnt κs a r s ≡ (now (s .0) ≡ rowWords (a .1 .0))
   put-row-says r s = refl

@@ -26,7 +26,8 @@ returns c =
     let read = called .before .before in
     let s = read .before .before .before .before .before in
     let a = s .args in
-    list-said (a .counters .now) (a .rows .now) (a .lines .now) _ (read .counters .ensures) (called .list .result) _ _ _ _ (c .before .put-counters .ensures) (c .told .ensures) _ (called .list .ensures)
+    list-said (a .counters .now) (a .rows .now) (a .lines .now) _ (read .counters .ensures) (called .list .result) _ _ _ _
+    (c .before .put-counters .ensures) (c .told .ensures) _ (called .list .ensures)
 
 pub sorundappa-list-spec : {M : Type 1} → statement M
 sorundappa-list-spec =

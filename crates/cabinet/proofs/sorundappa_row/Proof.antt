@@ -23,7 +23,8 @@ returns c =
     let read = called .before in
     let s = read .before .before .before .before in
     let a = s .args in
-    row-said (a .counters .now) (a .rows .now) (a .lines .now) _ (read .counters .ensures) (a .symbol .now) _ _ _ (called .row .ensures) (c .before .put-row .ensures) (c .told .ensures)
+    row-said (a .counters .now) (a .rows .now) (a .lines .now) _ (read .counters .ensures) (a .symbol .now) _ _ _
+    (called .row .ensures) (c .before .put-row .ensures) (c .told .ensures)
 
 pub sorundappa-row-spec : {M : Type 1} → statement M
 sorundappa-row-spec =

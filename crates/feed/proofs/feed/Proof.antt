@@ -17,7 +17,10 @@ slice-reshare-prefix-play : tie.Need-slice-reshare-prefix-play
 slice-reshare-prefix-play c = search needs
 
 slice-aggregate-play : tie.Need-slice-aggregate-play
-slice-aggregate-play c = sym (length-take-le (c .before .before .before .lesser .result) (c .before .before .before .before .before .before .before .args .piece .now) (omega arith))
+slice-aggregate-play c =
+    let asked = c .before .before .before in
+    let s = asked .before .before .before .before in
+    sym (length-take-le (asked .lesser .result) (s .args .piece .now) (omega arith))
 
 play-requires : tie.Need-play-requires
 play-requires c κs = search needs

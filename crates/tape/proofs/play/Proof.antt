@@ -24,8 +24,13 @@ abbrev μ-loop : tie.MeasureT-loop
 
 -- what a call lends are bytes
 pub entered : (c : tie.After-shared-slice-known Inv-loop μ-loop)
-    → Bytes (c .before .before .before .args .rows .now) × Bytes (c .before .before .before .args .lines .now) × Bytes (c .before .before .before .args .part .now)
-entered c = (λ i. c .before .before .slice-known .given i .fits, λ i. c .before .slice-known2 .given i .fits, λ i. c .shared-slice-known .given i .fits)
+    → Bytes (c .before .before .before .args .rows .now) × Bytes (c .before .before .before .args .lines .now)
+    × Bytes (c .before .before .before .args .part .now)
+entered c = (
+  λ i. c .before .before .slice-known .given i .fits,
+  λ i. c .before .slice-known2 .given i .fits,
+  λ i. c .shared-slice-known .given i .fits,
+)
 
 loop-holds : tie.Need-loop-holds Inv-loop μ-loop
 loop-holds c = (omega arith, refl, refl, further-none _)
@@ -51,7 +56,8 @@ returns c =
     let turn = asked .before in
     let s = turn .before .before .before .before in
     let l = turn .loop in
-    play-returns (state s) (lent (l .counters) (l .rows) (l .lines)) (s .args .part .now) (l .at) (l .inv .3) _ (sym (asked .head-at .ensures) ∙ c .before .head .given .1)
+    play-returns (state s) (lent (l .counters) (l .rows) (l .lines)) (s .args .part .now) (l .at) (l .inv .3) _
+    (sym (asked .head-at .ensures) ∙ c .before .head .given .1)
 
 enum-known-head-2 : tie.Need-enum-known-head-2 Inv-loop μ-loop
 enum-known-head-2 c = search needs
@@ -109,7 +115,8 @@ loop-again c =
       w .1,
       search (needs, l .inv .1),
       search (needs, l .inv .2),
-      play-turn (state s) (lent (l .counters) (l .rows) (l .lines)) (s .args .part .now) (l .at) (l .inv .3) n _ (found told) k _ (called .play-entry .ensures),
+      play-turn (state s) (lent (l .counters) (l .rows) (l .lines)) (s .args .part .now) (l .at) (l .inv .3) n _ (found told) k _
+          (called .play-entry .ensures),
     )
 
 pub play-spec : {M : Type 1} → statement M

@@ -23,7 +23,8 @@ message-length-requires c κs = search needs
 returns-2 : tie.Need-returns-2
 returns-2 c =
     let a = c .before .before .before .before .args in
-    none-is (a .letter) (c .before .before .before .if1 .left) _ (c .before .before .kind-of .ensures) _ (c .before .message-length .ensures) (c .if2 .taken)
+    none-is (a .letter) (c .before .before .before .if1 .left) _ (c .before .before .kind-of .ensures) _
+    (c .before .message-length .ensures) (c .if2 .taken)
 
 add-result-2 : tie.Need-add-result-2
 add-result-2 c =
@@ -33,7 +34,8 @@ add-result-2 c =
 returns-3 : tie.Need-returns-3
 returns-3 c =
     let a = c .before .before .before .before .args in
-    some-is (a .letter) (c .before .before .before .if1 .left) _ (c .before .before .kind-of .ensures) _ (c .before .message-length .ensures) (c .if2 .left)
+    some-is (a .letter) (c .before .before .before .if1 .left) _ (c .before .before .kind-of .ensures) _
+    (c .before .message-length .ensures) (c .if2 .left)
 
 pub body-length-spec : {M : Type 1} → statement M
 body-length-spec =

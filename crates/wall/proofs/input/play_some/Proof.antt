@@ -44,8 +44,10 @@ returns-2 c =
     let called = c .before .before .before .before .before .before .before .before .before in
     let s = called .before .before .before .before .before .before .before in
     let a = s .args in
-    let f = called .feed in
-    (held-fits (f .result) _ _ _ (lent (a .c) (a .rows .now) (a .lines .now)) (a .n) (a .piece .now) (f .ensures) (c .match .keys2), search needs)
+    let f = called .feed in (
+      held-fits (f .result) _ _ _ (lent (a .c) (a .rows .now) (a .lines .now)) (a .n) (a .piece .now) (f .ensures) (c .match .keys2),
+      search needs,
+    )
 
 pub play-some-spec : {M : Type 1} → statement M
 play-some-spec =
