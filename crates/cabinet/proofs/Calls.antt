@@ -4,40 +4,37 @@ use Prim.Native.Nat.{ℕ}
 use mathlib.Core.Path.{_≡_, ap, _∙_}
 use mathlib.Core.List.{List}
 use Rattle.answers.specs.Answers.{numberOf}
-use Rattle.book.specs.declared.counters.Counters.{Counters}
+use Rattle.counters.specs.declared.Counters.{Counters}
+use Rattle.rows.specs.declared.Listing.{Listing}
 use Rattle.book.specs.declared.Said.{Said}
 use Rattle.book.specs.declared.Shown.{Shown}
-use Rattle.book.specs.Calls.{listSaid, listRows, deliverSaid, deliverRows, deliverLines, rowShown}
+use Rattle.book.specs.State.{State, lent, leaving, Arrival}
+use Rattle.book.specs.Calls.{listed, delivered, shown}
 use Rattle.words.specs.Words.{countersOf, counterWords, rowWords}
+use Rattle.cabinet.specs.Crossing.{stateOf, crossed, crossing}
 
-module _ (w rows lines : List ℕ) {c : Counters} (e : c ≡ countersOf w) {a : ℕ} where
-  pub list-said : (symbol : List ℕ) (close : ℕ) {s : Said} {w₁ rows₁ : List ℕ}
-      → (s ≡ listSaid c rows lines symbol close) × (rows₁ ≡ listRows c rows lines symbol close) → w₁ ≡ counterWords (s .counters) → a ≡ numberOf (s .answer)
-      → (a ≡ numberOf (listSaid (countersOf w) rows lines symbol close .answer)) × ((w₁ ≡ counterWords (listSaid (countersOf w) rows lines symbol close .counters)) × (rows₁ ≡ listRows (countersOf w) rows lines symbol close))
-  list-said symbol close h p n =
-      let s = h .0 ∙ ap (λ (k : Counters). listSaid k rows lines symbol close) e in (
-        n ∙ ap (λ (o : Said). numberOf (o .answer)) s,
-        (p ∙ ap (λ (o : Said). counterWords (o .counters)) s, h .1 ∙ ap (λ (k : Counters). listRows k rows lines symbol close) e),
-      )
+-- an answer and words that are those of what a call told, with its rooms, are its outcome as it crosses
+told-crosses : (s : Said) (a : ℕ) (w rows lines : List ℕ) → a ≡ numberOf (s .answer) → w ≡ counterWords (s .counters)
+    → crossed a w rows lines ≡ crossing (leaving s rows lines)
+told-crosses s a w rows lines n p =
+    ap (λ (x : ℕ). crossed x w rows lines) n ∙ ap (λ (x : List ℕ). crossed (numberOf (s .answer)) x rows lines) p
 
-  pub deliver-said : (number : ℕ) (message : List ℕ) {s : Said} {w₁ rows₁ lines₁ : List ℕ}
-      → (s ≡ deliverSaid c rows lines number message) × ((rows₁ ≡ deliverRows c rows lines number message) × (lines₁ ≡ deliverLines c rows lines number message))
-      → w₁ ≡ counterWords (s .counters) → a ≡ numberOf (s .answer)
-      → (a ≡ numberOf (deliverSaid (countersOf w) rows lines number message .answer)) × ((w₁ ≡ counterWords (deliverSaid (countersOf w) rows lines number message .counters)) × ((rows₁ ≡ deliverRows (countersOf w) rows lines number message) × (lines₁ ≡ deliverLines (countersOf w) rows lines number message)))
-  deliver-said number message h p n =
-      let s = h .0 ∙ ap (λ (k : Counters). deliverSaid k rows lines number message) e in (
-        n ∙ ap (λ (o : Said). numberOf (o .answer)) s,
-        (
-          p ∙ ap (λ (o : Said). counterWords (o .counters)) s,
-          (
-            h .1 .0 ∙ ap (λ (k : Counters). deliverRows k rows lines number message) e,
-            h .1 .1 ∙ ap (λ (k : Counters). deliverLines k rows lines number message) e,
-          ),
-        ),
-      )
+module _ (w rows lines : List ℕ) (c : Counters) (e : c ≡ countersOf w) where
+  state-is : lent c rows lines ≡ stateOf w rows lines
+  state-is = ap (λ (x : Counters). lent x rows lines) e
 
-  pub row-said : (symbol : List ℕ) {s : Shown} {w₁ : List ℕ} → s ≡ rowShown c rows lines symbol → w₁ ≡ rowWords (s .row) → a ≡ numberOf (s .answer)
-      → (a ≡ numberOf (rowShown (countersOf w) rows lines symbol .answer)) × (w₁ ≡ rowWords (rowShown (countersOf w) rows lines symbol .row))
-  row-said symbol h p n =
-      let s = h ∙ ap (λ (k : Counters). rowShown k rows lines symbol) e in
-      (n ∙ ap (λ (o : Shown). numberOf (o .answer)) s, p ∙ ap (λ (o : Shown). rowWords (o .row)) s)
+  module _ (s : Said) (a : ℕ) (w₁ rows₁ lines₁ : List ℕ) (p : w₁ ≡ counterWords (s .counters)) (n : a ≡ numberOf (s .answer)) where
+    pub list-said : (l : Listing) → leaving s rows₁ lines₁ ≡ listed (lent c rows lines) l
+        → crossed a w₁ rows₁ lines₁ ≡ crossing (listed (stateOf w rows lines) l)
+    list-said l h = told-crosses s a w₁ rows₁ lines₁ n p ∙ ap crossing (h ∙ ap (λ (x : State). listed x l) state-is)
+
+    pub deliver-said : (d : Arrival) → leaving s rows₁ lines₁ ≡ delivered (lent c rows lines) d
+        → crossed a w₁ rows₁ lines₁ ≡ crossing (delivered (stateOf w rows lines) d)
+    deliver-said d h = told-crosses s a w₁ rows₁ lines₁ n p ∙ ap crossing (h ∙ ap (λ (x : State). delivered x d) state-is)
+
+  pub row-said : (symbol : List ℕ) (s : Shown) (a : ℕ) (w₁ : List ℕ) → s ≡ shown (lent c rows lines) symbol → w₁ ≡ rowWords (s .row)
+      → a ≡ numberOf (s .answer)
+      → (a ≡ numberOf (shown (stateOf w rows lines) symbol .answer)) × (w₁ ≡ rowWords (shown (stateOf w rows lines) symbol .row))
+  row-said symbol s a w₁ h p n =
+      let e = h ∙ ap (λ (x : State). shown x symbol) state-is in
+      (n ∙ ap (λ (o : Shown). numberOf (o .answer)) e, p ∙ ap (λ (o : Shown). rowWords (o .row)) e)

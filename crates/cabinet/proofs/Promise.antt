@@ -20,6 +20,7 @@ use Rattle.message.proofs.Fitting.{read-fits}
 use Rattle.layouts.proofs.Demand2.{read-again}
 use Rattle.packed.specs.Packed.{recordOf}
 use Rattle.packed.proofs.Again.{record-again}
+use Rattle.cabinet.specs.Crossing.{Crossed}
 use Rattle.cabinet.proofs.sorundappa_start as start
 use Rattle.cabinet.proofs.sorundappa_start.Reads as start-reads
 use Rattle.cabinet.proofs.sorundappa_start.Kinds as start-kinds
@@ -46,12 +47,16 @@ start-one κs a r r′ s s′ h h′ = h ∙ sym h′
 
 pub list-one : (κs : Lfts 4) (a : ArgsD list.signature κs) (r r′ : ℕ) (s s′ : AtExit (endedOf 4 list-kinds.ps list-kinds.r) κs)
     → list-reads.Learnt κs a r s → list-reads.Learnt κs a r′ s′ → (r ≡ r′) × (now (s .0) ≡ now (s′ .0)) × (now (s .1 .0) ≡ now (s′ .1 .0))
-list-one κs a r r′ s s′ h h′ = (h .0 ∙ sym (h′ .0), h .1 .0 ∙ sym (h′ .1 .0), h .1 .1 ∙ sym (h′ .1 .1))
+list-one κs a r r′ s s′ h h′ =
+    let e = h ∙ sym h′ in
+    (ap (λ (x : Crossed). x .answer) e, ap (λ (x : Crossed). x .words) e, ap (λ (x : Crossed). x .rows) e)
 
 pub deliver-one : (κs : Lfts 4) (a : ArgsD deliver.signature κs) (r r′ : ℕ) (s s′ : AtExit (endedOf 4 deliver-kinds.ps deliver-kinds.r) κs)
     → deliver-reads.Learnt κs a r s → deliver-reads.Learnt κs a r′ s′
     → (r ≡ r′) × (now (s .0) ≡ now (s′ .0)) × (now (s .1 .0) ≡ now (s′ .1 .0)) × (now (s .1 .1 .0) ≡ now (s′ .1 .1 .0))
-deliver-one κs a r r′ s s′ h h′ = (h .0 ∙ sym (h′ .0), h .1 .0 ∙ sym (h′ .1 .0), h .1 .1 .0 ∙ sym (h′ .1 .1 .0), h .1 .1 .1 ∙ sym (h′ .1 .1 .1))
+deliver-one κs a r r′ s s′ h h′ =
+    let e = h ∙ sym h′ in
+    (ap (λ (x : Crossed). x .answer) e, ap (λ (x : Crossed). x .words) e, ap (λ (x : Crossed). x .rows) e, ap (λ (x : Crossed). x .lines) e)
 
 pub row-one : (κs : Lfts 5) (a : ArgsD row.signature κs) (r r′ : ℕ) (s s′ : AtExit (endedOf 5 row-kinds.ps row-kinds.r) κs)
     → row-reads.Learnt κs a r s → row-reads.Learnt κs a r′ s′ → (r ≡ r′) × (now (s .1 .1 .1 .1 .0) ≡ now (s′ .1 .1 .1 .1 .0))
@@ -65,7 +70,8 @@ pub write-one : (κs : Lfts 2) (a : ArgsD write.signature κs) (r r′ : ℕ) (s
     → write-reads.Learnt κs a r s → write-reads.Learnt κs a r′ s′ → (r ≡ r′) × (now (s .1 .0) ≡ now (s′ .1 .0))
 write-one κs a r r′ s s′ h h′ = (h .0 ∙ sym (h′ .0), h .1 ∙ sym (h′ .1))
 
-pub size-one : (which which₁ which₂ r r′ : ℕ) → size-reads.Learnt tt (which, tt) r (which₁, tt) → size-reads.Learnt tt (which, tt) r′ (which₂, tt) → r ≡ r′
+pub size-one : (which which₁ which₂ r r′ : ℕ) → size-reads.Learnt tt (which, tt) r (which₁, tt)
+    → size-reads.Learnt tt (which, tt) r′ (which₂, tt) → r ≡ r′
 size-one which which₁ which₂ r r′ h h′ = h ∙ sym h′
 
 -- ---- there and back, of calls

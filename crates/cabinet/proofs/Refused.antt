@@ -12,43 +12,44 @@ use Rattle.layouts.proofs.Demand2.{read-refused}
 use Rattle.packed.specs.Packed.{recordBytes}
 use Rattle.packed.proofs.Stores.{no-bytes}
 use Rattle.show.specs.Showing.{nothingShown}
-use Rattle.book.specs.Counting.{sound}
-use Rattle.book.specs.Calls.{listSaid, listRows, deliverSaid, deliverRows, deliverLines, rowShown}
-use Rattle.book.proofs.Demand1.{answers-listed, refused-keeps}
-use Rattle.words.specs.Words.{countersOf, counterWords, rowWords}
+use Rattle.counters.specs.Counting.{lastNumber}
+use Rattle.rows.specs.declared.Listing.{Listing}
+use Rattle.book.specs.State.{State, Arrival, wantedIn, soundIn}
+use Rattle.book.specs.Calls.{listed, delivered, shown}
+use Rattle.book.proofs.Demand1.{refused-keeps}
+use Rattle.words.specs.Words.{counterCount, counterWords, rowCount, rowWords}
 use Rattle.words.proofs.Again.{words-again}
+use Rattle.cabinet.specs.Crossing.{stateOf, crossed, crossing}
 
-nothing-words : rowWords nothingShown ≡ replicate 15 0
+nothing-words : rowWords nothingShown ≡ replicate rowCount 0
 unfolding rowWords be
 nothing-words = refl
 
 module _ (w rows lines : List ℕ) where
-  pub list-kept : (symbol : List ℕ) (close : ℕ) → length w ≡ 5 → (numberOf (listSaid (countersOf w) rows lines symbol close .answer) ≡ 0 → ⊥)
-      → (counterWords (listSaid (countersOf w) rows lines symbol close .counters) ≡ w) × (listRows (countersOf w) rows lines symbol close ≡ rows)
-  unfolding listSaid
-  list-kept symbol close l z =
-      let k = refused-keeps (countersOf w) rows lines .list symbol close (λ e. z (answers-listed (countersOf w) rows lines .list symbol close .1 ∙ e)) in
-      (ap counterWords (k .0) ∙ words-again w l, k .1)
+  abbrev here : State
+  here = stateOf w rows lines
 
-  module _ (n : ℕ) (m : List ℕ) where
+  -- a refused listing hands back everything as it was
+  pub list-kept : (l : Listing) → length w ≡ counterCount → (listed here l .answer ≡ 0 → ⊥)
+      → crossing (listed here l) ≡ crossed (listed here l .answer) w rows lines
+  list-kept l k z =
+      ap (λ (s : State). crossed (listed here l .answer) (counterWords (s .counters)) (s .rows) (s .lines)) (refused-keeps here .list l z)
+      ∙ ap (λ (x : List ℕ). crossed (listed here l .answer) x rows lines) (words-again w k)
+
+  module _ (a : Arrival) where
     -- whatever refused it, no row and no line is changed
-    pub deliver-kept : (numberOf (deliverSaid (countersOf w) rows lines n m .answer) ≡ 0 → ⊥)
-        → (deliverRows (countersOf w) rows lines n m ≡ rows) × (deliverLines (countersOf w) rows lines n m ≡ lines)
-    unfolding deliverSaid
-    deliver-kept z =
-        refused-keeps (countersOf w) rows lines .deliver n m (λ e. z (answers-listed (countersOf w) rows lines .deliver n m .1 ∙ e))
+    pub deliver-kept : (delivered here a .answer ≡ 0 → ⊥)
+        → (delivered here a .state .rows ≡ rows) × (delivered here a .state .lines ≡ lines)
+    deliver-kept z = refused-keeps here .deliver a z
 
     -- in an unsound book, or at any number but the wanted one, no word is changed either
-    pub deliver-unused : length w ≡ 5 → (sound (countersOf w) (length rows) (length lines) ≡ true → n ≡ countersOf w .wanted → n ≤ 4294967295 → ⊥)
-        → counterWords (deliverSaid (countersOf w) rows lines n m .counters) ≡ w
-    deliver-unused l h = ap counterWords (refused-keeps (countersOf w) rows lines .unused n m h .1) ∙ words-again w l
+    pub deliver-unused : length w ≡ counterCount → (soundIn here ≡ true → a .number ≡ wantedIn here → a .number ≤ lastNumber → ⊥)
+        → counterWords (delivered here a .state .counters) ≡ w
+    deliver-unused k h = ap (λ (s : State). counterWords (s .counters)) (refused-keeps here .unused a h .1) ∙ words-again w k
 
-  pub row-cleared : (symbol : List ℕ) → (numberOf (rowShown (countersOf w) rows lines symbol .answer) ≡ 0 → ⊥)
-      → rowWords (rowShown (countersOf w) rows lines symbol .row) ≡ replicate 15 0
-  unfolding rowShown
-  row-cleared symbol z =
-      let k = refused-keeps (countersOf w) rows lines .row symbol (λ e. z (answers-listed (countersOf w) rows lines .row symbol .1 ∙ e)) in
-      ap rowWords k ∙ nothing-words
+  pub row-cleared : (symbol : List ℕ) → (numberOf (shown here symbol .answer) ≡ 0 → ⊥)
+      → rowWords (shown here symbol .row) ≡ replicate rowCount 0
+  row-cleared symbol z = ap rowWords (refused-keeps here .row symbol z) ∙ nothing-words
 
 pub read-cleared : (m : List ℕ) → (numberOf (readOf m .answer) ≡ 0 → ⊥) → recordBytes (readOf m .found) ≡ replicate 80 0
 read-cleared m z = ap recordBytes (read-refused m z .0) ∙ no-bytes

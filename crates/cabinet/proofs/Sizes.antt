@@ -8,7 +8,7 @@ use lib.ListN.{length, List·getD-eq-default}
 use Rattle.records.specs.declared.Record.{Record}
 use Rattle.records.specs.Fits.{RecordFits}
 use Rattle.message.specs.Reading.{lengthBy}
-use Rattle.book.specs.declared.counters.Counters.{Counters}
+use Rattle.counters.specs.declared.Counters.{Counters}
 use Rattle.show.specs.declared.RowShown.{RowShown}
 use Rattle.words.specs.Words.{counterWords, rowWords}
 use Rattle.rows.specs.Rows.{rowLimit}

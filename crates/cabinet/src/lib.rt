@@ -1,16 +1,35 @@
-// The library as C and Rust link it. Every function takes any counters, any bytes and any slices, and asks nothing of its caller. All but
-// `sorundappa_start`, which answers nothing, and `sorundappa_size`, which tells a size, answer a number of document 01's table.
+// The library as C and Rust link it. Every function takes any counters, any bytes and any slices, and asks nothing of
+// its caller. All but `sorundappa_start`, which answers nothing, and `sorundappa_size`, which tells a size, answer a
+// number of document 01's table.
 // `include/sorundappa.h` says the same in C.
 use answers::Answer;
+use rows::Listing;
 ghost use mathlib.Core.Path.{_≡_};
 ghost use Rattle.answers.specs.Answers.{numberOf};
 ghost use Rattle.message.specs.Reading.{readOf};
 ghost use Rattle.message.specs.Writing.{writeAnswer, writeOut};
-ghost use Rattle.book.specs.Counting.{freshCounters};
-ghost use Rattle.book.specs.Calls.{listSaid, listRows, deliverSaid, deliverRows, deliverLines, rowShown};
-ghost use Rattle.words.specs.Words.{countersOf, counterWords, rowWords};
+ghost use Rattle.counters.specs.Counting.{freshCounters};
+ghost use Rattle.book.specs.State.{arrives};
+ghost use Rattle.book.specs.Calls.{listed, delivered, shown};
+ghost use Rattle.words.specs.Words.{counterWords, rowWords};
 ghost use Rattle.packed.specs.Packed.{recordOf, recordBytes};
 ghost use Rattle.cabinet.specs.Sizes.{sizeOf};
+ghost use Rattle.cabinet.specs.Crossing.{stateOf, listingWith, crossed, crossing};
+
+// The bytes of a record.
+const RECORD: usize = 80;
+
+// The bytes of a message of each type; an X is as long as a T, and no message is longer than a C.
+const EVENT: u64 = 6;
+
+const TRADE: u64 = 45;
+
+const CORRECTION: u64 = 67;
+
+const SUMMARY: u64 = 34;
+
+// At most this many lines, however long the room.
+const LINES: u64 = 65536;
 
 // The number of an answer in the table: what every call but the first and the last tells.
 fn told(a: Answer) -> u8
@@ -21,7 +40,7 @@ fn told(a: Answer) -> u8
 
 // The words of a fresh book. No lent byte is written.
 #[no_mangle]
-pub extern "C" fn sorundappa_start(counters: &mut [u64; 5])
+pub extern "C" fn sorundappa_start(counters: &mut [u64; words::COUNTERS])
     ensures { λ _. ⌜ now (counters .exit) ≡ counterWords freshCounters ⌝ }
 {
     let c = book::fresh();
@@ -31,19 +50,23 @@ pub extern "C" fn sorundappa_start(counters: &mut [u64; 5])
 // Lists a symbol with its close. Answers 0 or 13 to 17.
 #[no_mangle]
 pub extern "C" fn sorundappa_list(
-    counters: &mut [u64; 5],
+    counters: &mut [u64; words::COUNTERS],
     rows: &mut [u8],
     lines: &[u8],
     symbol: &[u8; 8],
     close: u32,
 ) -> u8
-    ensures answer { λ a. ⌜ a ≡ numberOf (listSaid (countersOf (now (counters .entry))) (now (rows .entry)) (now (lines .entry)) (now (symbol .entry)) close .answer) ⌝ }
-    ensures counters { λ a. ⌜ now (counters .exit) ≡ counterWords (listSaid (countersOf (now (counters .entry))) (now (rows .entry)) (now (lines .entry)) (now (symbol .entry)) close .counters) ⌝ }
-    ensures rows { λ a. ⌜ now (rows .exit) ≡ listRows (countersOf (now (counters .entry))) (now (rows .entry)) (now (lines .entry)) (now (symbol .entry)) close ⌝ }
+    ensures { λ a. ⌜ crossed a (now (counters .exit)) (now (rows .exit)) (now (lines .entry))
+        ≡ crossing (listed (stateOf (now (counters .entry)) (now (rows .entry)) (now (lines .entry)))
+        (listingWith (now (symbol .entry)) close)) ⌝ }
 {
     let name = *symbol;
     let before = words::counters(counters);
-    let s = book::list(before, rows, lines, name, close);
+    let l = Listing {
+        symbol: name,
+        close: close,
+    };
+    let s = book::list(before, rows, lines, l);
     let a = s.answer;
     let listed = s.counters;
     words::put_counters(counters, listed);
@@ -53,16 +76,15 @@ pub extern "C" fn sorundappa_list(
 // Delivers a message under its number. Answers 0 to 12 or 17.
 #[no_mangle]
 pub extern "C" fn sorundappa_deliver(
-    counters: &mut [u64; 5],
+    counters: &mut [u64; words::COUNTERS],
     rows: &mut [u8],
     lines: &mut [u8],
     number: u64,
     message: &[u8],
 ) -> u8
-    ensures answer { λ a. ⌜ a ≡ numberOf (deliverSaid (countersOf (now (counters .entry))) (now (rows .entry)) (now (lines .entry)) number (now (message .entry)) .answer) ⌝ }
-    ensures counters { λ a. ⌜ now (counters .exit) ≡ counterWords (deliverSaid (countersOf (now (counters .entry))) (now (rows .entry)) (now (lines .entry)) number (now (message .entry)) .counters) ⌝ }
-    ensures rows { λ a. ⌜ now (rows .exit) ≡ deliverRows (countersOf (now (counters .entry))) (now (rows .entry)) (now (lines .entry)) number (now (message .entry)) ⌝ }
-    ensures lines { λ a. ⌜ now (lines .exit) ≡ deliverLines (countersOf (now (counters .entry))) (now (rows .entry)) (now (lines .entry)) number (now (message .entry)) ⌝ }
+    ensures { λ a. ⌜ crossed a (now (counters .exit)) (now (rows .exit)) (now (lines .exit))
+        ≡ crossing (delivered (stateOf (now (counters .entry)) (now (rows .entry)) (now (lines .entry)))
+        (arrives number (now (message .entry)))) ⌝ }
 {
     let before = words::counters(counters);
     let s = book::deliver(before, rows, lines, number, message);
@@ -75,14 +97,18 @@ pub extern "C" fn sorundappa_deliver(
 // Reads the row of a symbol. Answers 0, 7 or 17; where not 0, every word is 0.
 #[no_mangle]
 pub extern "C" fn sorundappa_row(
-    counters: &[u64; 5],
+    counters: &[u64; words::COUNTERS],
     rows: &[u8],
     lines: &[u8],
     symbol: &[u8; 8],
-    row: &mut [u64; 15],
+    row: &mut [u64; words::ROW],
 ) -> u8
-    ensures answer { λ a. ⌜ a ≡ numberOf (rowShown (countersOf (now (counters .entry))) (now (rows .entry)) (now (lines .entry)) (now (symbol .entry)) .answer) ⌝ }
-    ensures row { λ a. ⌜ now (row .exit) ≡ rowWords (rowShown (countersOf (now (counters .entry))) (now (rows .entry)) (now (lines .entry)) (now (symbol .entry)) .row) ⌝ }
+    ensures answer { λ a. ⌜ a
+        ≡ numberOf (shown (stateOf (now (counters .entry)) (now (rows .entry)) (now (lines .entry)))
+        (now (symbol .entry)) .answer) ⌝ }
+    ensures row { λ a. ⌜ now (row .exit)
+        ≡ rowWords (shown (stateOf (now (counters .entry)) (now (rows .entry)) (now (lines .entry)))
+        (now (symbol .entry)) .row) ⌝ }
 {
     let name = *symbol;
     let c = words::counters(counters);
@@ -95,7 +121,7 @@ pub extern "C" fn sorundappa_row(
 
 // Reads a message alone. Answers 0, 4 or 5; where not 0, every byte of the record is 0.
 #[no_mangle]
-pub extern "C" fn sorundappa_read(message: &[u8], out: &mut [u8; 80]) -> u8
+pub extern "C" fn sorundappa_read(message: &[u8], out: &mut [u8; RECORD]) -> u8
     ensures answer { λ a. ⌜ a ≡ numberOf (readOf (now (message .entry)) .answer) ⌝ }
     ensures bytes { λ a. ⌜ now (out .exit) ≡ recordBytes (readOf (now (message .entry)) .found) ⌝ }
 {
@@ -105,7 +131,7 @@ pub extern "C" fn sorundappa_read(message: &[u8], out: &mut [u8; 80]) -> u8
 
 // Writes a record's message. Answers 0, 5 or 18; where not 0, out stays as it was.
 #[no_mangle]
-pub extern "C" fn sorundappa_write(bytes: &[u8; 80], out: &mut [u8]) -> u8
+pub extern "C" fn sorundappa_write(bytes: &[u8; RECORD], out: &mut [u8]) -> u8
     ensures answer { λ a. ⌜ a ≡ numberOf (writeAnswer (recordOf (now (bytes .entry))) (now (out .entry))) ⌝ }
     ensures out { λ a. ⌜ now (out .exit) ≡ writeOut (recordOf (now (bytes .entry))) (now (out .entry)) ⌝ }
 {
@@ -119,19 +145,19 @@ pub extern "C" fn sorundappa_size(which: u64) -> u64
     ensures { λ n. ⌜ n ≡ sizeOf which ⌝ }
 {
     match which {
-        0 => 30,
-        1 => 256,
-        2 => 40,
-        3 => 65536,
-        4 => 67,
-        5 => 80,
-        6 => 5,
-        7 => 15,
-        8 => 6,
-        9 => 45,
-        10 => 45,
-        11 => 67,
-        12 => 34,
+        0 => rows::CELL as u64,
+        1 => rows::CAP as u64,
+        2 => lines::CELL as u64,
+        3 => LINES,
+        4 => CORRECTION,
+        5 => RECORD as u64,
+        6 => words::COUNTERS as u64,
+        7 => words::ROW as u64,
+        8 => EVENT,
+        9 => TRADE,
+        10 => TRADE,
+        11 => CORRECTION,
+        12 => SUMMARY,
         _ => 0,
     }
 }

@@ -1,12 +1,13 @@
 // One call, and what came of it.
 use crate::rooms;
 use book::Said;
-use book::counters::Counters;
+use counters::Counters;
 use figures::Price;
 use libc::STDOUT_FILENO;
 use numbers::number4;
 use numbers::number8;
 use octets::run;
+use rows::Listing;
 use rows::Reported;
 use show::Net;
 use show::RowShown;
@@ -14,7 +15,11 @@ ghost use Rattle.io.specs.Counts.{Counts};
 
 // A listing: the symbol and the close that the code has, handed to the book.
 pub fn list(c: Counters, rows: &mut [u8], lines: &[u8], code: &[u8]) -> Counters {
-    let said = book::list(c, rows, lines, symbol(code), number4(code, 9));
+    let l = Listing {
+        symbol: symbol(code),
+        close: number4(code, 9),
+    };
+    let said = book::list(c, rows, lines, l);
     after(said, rows, lines)
 }
 

@@ -10,7 +10,7 @@ use crate::form;
 use crate::form::Pen;
 use crate::play;
 use crate::rooms;
-use book::counters::Counters;
+use counters::Counters;
 use numbers::number8;
 use octets::run;
 

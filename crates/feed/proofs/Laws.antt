@@ -1,4 +1,4 @@
--- What the moved bytes are, and that a piece fed behind what was held is one step of the play by pieces.
+-- What the moved bytes are, and what a call of `feed` comes to.
 -- Assumes nothing.
 use Prim.Native.Nat.{ℕ, _+_, _-_, _≤_, min}
 use mathlib.Core.Path.{_≡_, refl, ap, sym, _∙_}
@@ -12,9 +12,10 @@ use lib.Seq.{sets, length-take-le, take-length, take-all, drop-append-le}
 use Rattle.octets.specs.Run.{part}
 use Rattle.octets.proofs.Trips.{here}
 use Rattle.tape.specs.declared.Played.{Played}
-use Rattle.tape.specs.Playing.{State, played}
-use Rattle.tape.proofs.Pieces.{played-within}
-use Rattle.feed.specs.Feeding.{leftOver, fedOf, keptIn}
+use Rattle.book.specs.State.{State}
+use Rattle.tape.specs.Playing.{Play, came, played}
+use Rattle.tape.proofs.Pieces.{used-within}
+use Rattle.feed.specs.Feeding.{leftOver, fed}
 
 -- the first n of a list, or all where it has fewer
 pub first-of : (n : ℕ) (m : List ℕ) → take (min n (length m)) m ≡ take n m
@@ -38,35 +39,35 @@ part-of m u k h f =
     = ap (drop u) (sym (take-append-drop k m)) ∙ drop-append-le u (take k m) (drop k m) (omega arith) in
     here m u (k - u) (drop u (take k m)) (drop k m) d (length-drop u (take k m) ∙ ap (λ (x : ℕ). x - u) n)
 
-module _ (s : State) (n : ℕ) (m : List ℕ) (k : ℕ) (is : k ≡ min n (length m)) (p : Played) (e : p ≡ played s (take k m)) where
-  pub brought : take k m ≡ take n m
+module _ (s : State) (n : ℕ) (m : List ℕ) (k : ℕ) (is : k ≡ min n (length m)) (p : Played) (rows lines : List ℕ)
+    (e : came p rows lines ≡ played s (take k m)) where
+  brought : take k m ≡ take n m
   brought = ap (λ (x : ℕ). take x m) is ∙ first-of n m
 
-  pub used-fits : p .used ≤ k
-  used-fits = rw e (omega (arith, played-within s (take k m), length-take-le k m (omega arith)))
+  used-is : p .used ≡ played s (take k m) .used
+  used-is = ap (λ (x : Play). x .used) e
 
-  played-is : p ≡ played s (take n m)
-  played-is = e ∙ ap (played s) brought
+  pub used-fits : p .used ≤ k
+  used-fits = omega (arith, used-is, used-within s (take k m), length-take-le k m (omega arith))
+
+  play-is : came p rows lines ≡ played s (take n m)
+  play-is = e ∙ ap (played s) brought
+
+  left-is : drop (p .used) (take k m) ≡ leftOver s (take n m)
+  left-is = ap (drop (p .used)) brought ∙ ap (λ (x : Play). drop (x .used) (take n m)) play-is
 
   held-is : k - p .used ≡ length (leftOver s (take n m))
   held-is =
-      let l : length (take n m) ≡ k = ap length (sym brought) ∙ length-take-le k m (omega arith) in
-      rw (← played-is) (sym (length-drop (p .used) (take n m) ∙ ap (λ (x : ℕ). x - p .used) l))
+      ap (λ (x : ℕ). x - p .used) (sym (length-take-le k m (omega arith))) ∙ sym (length-drop (p .used) (take k m)) ∙ ap length left-is
 
-  pub moved : (out : List ℕ) → out ≡ sets m 0 (part m (p .used) (k - p .used)) → out ≡ keptIn s n m
-  unfolding keptIn
-  moved out h =
-      h
-      ∙ ap (sets m 0) (part-of m (p .used) k used-fits (omega arith) ∙ ap (drop (p .used)) brought
-      ∙ ap (λ (x : Played). drop (x .used) (take n m)) played-is)
+  moved : (out : List ℕ) → out ≡ sets m 0 (part m (p .used) (k - p .used)) → out ≡ sets m 0 (leftOver s (take n m))
+  moved out h = h ∙ ap (sets m 0) (part-of m (p .used) k used-fits (omega arith) ∙ left-is)
 
-  pub said : record { counters = p .counters; used = p .used; held = k - p .used; stop = p .stop } ≡ fedOf s n m
-  unfolding fedOf
-  said =
-      rw held-is (ap (λ (x : Played). record {
-        counters = x .counters;
-        used = x .used;
-        held = length
-            (leftOver s (take n m));
-        stop = x .stop;
-      }) played-is)
+  pub fed-is : (out : List ℕ) → out ≡ sets m 0 (part m (p .used) (k - p .used))
+      → record { play = came p rows lines; held = k - p .used; piece = out } ≡ fed s n m
+  unfolding fed
+  fed-is out h = parts (came p rows lines) (k - p .used) out play-is held-is (moved out h)
+    where
+      parts : (y : Play) (i : ℕ) (o : List ℕ) → y ≡ fed s n m .play → i ≡ fed s n m .held → o ≡ fed s n m .piece
+          → record { play = y; held = i; piece = o } ≡ fed s n m
+      parts y i o f g q = rw (f, g, q)

@@ -1,18 +1,64 @@
 -- The contract of `feed` leaves one answer and one content for each lent byte.
 -- Assumes nothing.
-use mathlib.Core.Path.{_≡_, sym, _∙_}
+use Prim.Native.Nat.{ℕ}
+use mathlib.Core.Path.{_≡_, refl, ap, sym, _∙_}
+use mathlib.Core.List.{List}
 use contract.Lifetimes.{Lfts}
 use borrow.Fn.World.{ArgsD}
 use borrow.Fn.Kinds.{endedOf}
 use denote.Triple.Clauses.{AtExit}
 use denote.Ref.{now}
+use Rattle.counters.specs.declared.Counters.{Counters}
+use Rattle.book.specs.State.{State, lent}
+use Rattle.tape.specs.declared.Stop.{Stop}
 use Rattle.feed.specs.declared.Fed.{Fed}
+use Rattle.feed.specs.Feeding.{Feeding, cameOf, fed}
 use Rattle.feed.proofs.feed as feed
 use Rattle.feed.proofs.feed.Reads as feed-reads
 use Rattle.feed.proofs.feed.Kinds as feed-kinds
 
-pub feed-one : (κs : Lfts 3) (a : ArgsD feed.signature κs) (r r′ : Fed) (s s′ : AtExit (endedOf 3 feed-kinds.ps feed-kinds.r) κs)
-    → feed-reads.Learnt κs a r s → feed-reads.Learnt κs a r′ s′
-    → (r ≡ r′) × (now (s .1 .0) ≡ now (s′ .1 .0)) × (now (s .1 .1 .0) ≡ now (s′ .1 .1 .0)) × (now (s .1 .1 .1 .0) ≡ now (s′ .1 .1 .1 .0))
-feed-one κs a r r′ s s′ h h′ =
-    (h .0 ∙ sym (h′ .0), h .1 .0 ∙ sym (h′ .1 .0), h .1 .1 .0 ∙ sym (h′ .1 .1 .0), h .1 .1 .1 ∙ sym (h′ .1 .1 .1))
+-- two calls that came to the same told the same
+told-same : (r r′ : Fed) (rows lines piece rows′ lines′ piece′ : List ℕ) (f : Feeding)
+    → cameOf r rows lines piece ≡ f → cameOf r′ rows′ lines′ piece′ ≡ f → r ≡ r′
+told-same r r′ rows lines piece rows′ lines′ piece′ f h h′ =
+    let e = h ∙ sym h′ in
+    same (r .counters) (r .used) (r .held) (r .stop)
+    (ap (λ (x : Feeding). x .play .state .counters) e)
+    (ap (λ (x : Feeding). x .play .used) e)
+    (ap (λ (x : Feeding). x .held) e)
+    (ap (λ (x : Feeding). x .play .stop) e)
+  where
+    same : (c : Counters) (n k : ℕ) (w : Stop) → c ≡ r′ .counters → n ≡ r′ .used → k ≡ r′ .held → w ≡ r′ .stop
+        → record { counters = c; used = n; held = k; stop = w } ≡ r′
+    same c n k w e f g q = rw (e, f, g, q)
+
+module _ (κs : Lfts 3) (a : ArgsD feed.signature κs) where
+  -- what the call is lent, and what it is given: how many bytes to play, and the piece
+  abbrev pub feedFrom : State
+  feedFrom = lent (a .0) (now (a .1 .0)) (now (a .1 .1 .0))
+
+  abbrev pub feedPiece : List ℕ
+  feedPiece = now (a .1 .1 .1 .0)
+
+  abbrev pub feedCount : ℕ
+  feedCount = a .1 .1 .1 .1 .0
+
+  -- what comes of it
+  abbrev pub feedLeft : Fed → AtExit (endedOf 3 feed-kinds.ps feed-kinds.r) κs → Feeding
+  feedLeft r s = cameOf r (now (s .1 .0)) (now (s .1 .1 .0)) (now (s .1 .1 .1 .0))
+
+  pub feed-one : (r r′ : Fed) (s s′ : AtExit (endedOf 3 feed-kinds.ps feed-kinds.r) κs)
+      → feed-reads.Learnt κs a r s → feed-reads.Learnt κs a r′ s′
+      → (r ≡ r′) × (now (s .1 .0) ≡ now (s′ .1 .0)) × (now (s .1 .1 .0) ≡ now (s′ .1 .1 .0)) × (now (s .1 .1 .1 .0) ≡ now (s′ .1 .1 .1 .0))
+  feed-one r r′ s s′ h h′ =
+      let e = h ∙ sym h′ in (
+        told-same r r′ _ _ _ _ _ _ _ h h′,
+        ap (λ (x : Feeding). x .play .state .rows) e,
+        ap (λ (x : Feeding). x .play .state .lines) e,
+        ap (λ (x : Feeding). x .piece) e,
+      )
+
+  -- what a caller is told, and nothing else
+  pub feed-says : (r : Fed) (s : AtExit (endedOf 3 feed-kinds.ps feed-kinds.r) κs)
+      → feed-reads.Learnt κs a r s ≡ (feedLeft r s ≡ fed feedFrom feedCount feedPiece)
+  feed-says r s = refl

@@ -4,17 +4,26 @@ use Prim.Native.Nat.{ℕ}
 use mathlib.Core.List.{List}
 use lib.ListN.{length, take, drop}
 use lib.Seq.{sets}
-use Rattle.tape.specs.Playing.{State, played}
+use Rattle.book.specs.State.{State, lent}
+use Rattle.tape.specs.Playing.{Play, played}
 use Rattle.feed.specs.declared.Fed.{Fed}
 
 -- the bytes that the play leaves over
 abbrev pub leftOver : State → List ℕ → List ℕ
 leftOver s b = drop (played s b .used) b
 
-unfoldable pub fedOf : State → ℕ → List ℕ → Fed
-fedOf s n piece =
-    let p = played s (take n piece) in
-    record { counters = p .counters; used = p .used; held = length (leftOver s (take n piece)); stop = p .stop }
+-- what came of a piece: its play, how many bytes are held at its front, and the piece as it is left
+pub record Feeding : Type 0 where
+  pub play : Play
+  pub held : ℕ
+  pub piece : List ℕ
 
-unfoldable pub keptIn : State → ℕ → List ℕ → List ℕ
-keptIn s n piece = sets piece 0 (leftOver s (take n piece))
+-- what a call that told so, and left these rooms and this piece, comes to
+abbrev pub cameOf : Fed → List ℕ → List ℕ → List ℕ → Feeding
+cameOf f rows lines piece =
+    record { play = record { state = lent (f .counters) rows lines; used = f .used; stop = f .stop }; held = f .held; piece = piece }
+
+unfoldable pub fed : State → ℕ → List ℕ → Feeding
+fed s n piece =
+    let left = leftOver s (take n piece) in
+    record { play = played s (take n piece); held = length left; piece = sets piece 0 left }

@@ -1,13 +1,12 @@
-// A tape of any length, played in pieces as they come: what a piece leaves over is moved to its front, and the next
-// is read behind it.
-use book::counters::Counters;
+// A tape of any length, played in pieces as they come: what a piece leaves over is moved to its front, and the next is
+// read behind it.
+use counters::Counters;
 use numbers::lesser;
 use octets::run::to_front;
 use tape::Stop;
 ghost use mathlib.Core.Path.{_≡_};
-ghost use lib.ListN.{take};
-ghost use Rattle.tape.specs.Playing.{stateOf, playRows, playLines};
-ghost use Rattle.feed.specs.Feeding.{fedOf, keptIn};
+ghost use Rattle.book.specs.State.{lent};
+ghost use Rattle.feed.specs.Feeding.{cameOf, fed};
 
 // What came of a piece: the counters after it, how many of its bytes were used, how many are held at its front now, and
 // why the play stopped.
@@ -20,13 +19,8 @@ pub struct Fed {
 
 // Plays the first n bytes of a piece, or all where it has fewer.
 pub fn feed(c: Counters, rows: &mut [u8], lines: &mut [u8], piece: &mut [u8], n: usize) -> Fed
-    ensures said { λ r. ⌜ r ≡ fedOf (stateOf c (now (rows .entry)) (now (lines .entry))) n (now (piece .entry)) ⌝ }
-    ensures rows { λ r. ⌜ now (rows .exit)
-        ≡ playRows (stateOf c (now (rows .entry)) (now (lines .entry))) (take n (now (piece .entry))) ⌝ }
-    ensures lines { λ r. ⌜ now (lines .exit)
-        ≡ playLines (stateOf c (now (rows .entry)) (now (lines .entry))) (take n (now (piece .entry))) ⌝ }
-    ensures piece { λ r. ⌜ now (piece .exit)
-        ≡ keptIn (stateOf c (now (rows .entry)) (now (lines .entry))) n (now (piece .entry)) ⌝ }
+    ensures { λ r. ⌜ cameOf r (now (rows .exit)) (now (lines .exit)) (now (piece .exit))
+        ≡ fed (lent c (now (rows .entry)) (now (lines .entry))) n (now (piece .entry)) ⌝ }
 {
     let k = lesser(n, piece.len());
     let p = tape::play(c, rows, lines, &piece[..k]);

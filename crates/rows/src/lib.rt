@@ -34,10 +34,10 @@ pub struct Row {
 }
 
 // At most this many rows, however long the room.
-const CAP: usize = 256;
+pub const CAP: usize = 256;
 
 // The cell, and where each field stands in it; the symbol stands first.
-const CELL: usize = 30;
+pub const CELL: usize = 30;
 
 const CLOSE: usize = 8;
 

@@ -1,6 +1,6 @@
 -- What stands at a place of a tape, test by test, and what it means that a whole entry stands there.
 -- Assumes nothing.
-use mathlib.Core.Path.{_≡_, refl, ap}
+use mathlib.Core.Path.{_≡_, refl, ap, sym, _∙_}
 use mathlib.Core.Logic.{_⊎_, inl, inr}
 use mathlib.Core.Bool.{Bool, true, false, cond}
 use mathlib.Core.List.{List, [], _∷_}
@@ -11,7 +11,10 @@ use borrow.Author.Tests.{eq-eqb, ne-eqb, le-leb, lt-leb, eqb-false, leb-true}
 use lib.Dec.{eqb, leb, lit≤}
 use lib.ListN.{length, drop, getD, length-drop, drop-of-length-le}
 use lib.Seq.{drop-cons}
-use Rattle.tape.specs.Entries.{messageLength, bodyLength, headOf}
+use Rattle.kinds.specs.declared.Kind.{Kind}
+use Rattle.kinds.specs.declared.Kind.the-variants.{Event, Trade, Cancel, Correction, Summary, Other}
+use Rattle.kinds.specs.Kinds.{kindOf}
+use Rattle.tape.specs.Entries.{listingLetter, numberBytes, lengthIn, messageLength, bodyLength, headOf}
 use Rattle.tape.specs.declared.entries.Head.the-variants.{Whole, Stops}
 use Rattle.tape.specs.declared.Stop.{Stop}
 use Rattle.tape.specs.declared.Stop.the-variants.{Ended, NoKind, CutShort}
@@ -43,10 +46,6 @@ module _ (m : List ℕ) (at n : ℕ) (h : at < length m) (e : n ≡ bodyLength (
 
 -- ---- lengths
 
-cond-in : (P : ℕ → Type 0) (t : Bool) (x y : ℕ) → P x → P y → P (cond t x y)
-cond-in P true x y p q = p
-cond-in P false x y p q = q
-
 -- no message, or one of 6 to 67 bytes
 abbrev Some : ℕ → Type 0
 Some n = (n ≡ 0) ⊎ ((6 ≤ n) × (n ≤ 67))
@@ -54,20 +53,43 @@ Some n = (n ≡ 0) ⊎ ((6 ≤ n) × (n ≤ 67))
 some : (n : ℕ) → 6 ≤ n → n ≤ 67 → Some n
 some n a b = inr (a, b)
 
-message-some : (k : ℕ) → Some (messageLength k)
-message-some k =
-    cond-in Some (eqb k 83) 6 _ (some 6 (lit≤ tt) (lit≤ tt))
-    (cond-in Some (eqb k 84) 45 _ (some 45 (lit≤ tt) (lit≤ tt))
-    (cond-in Some (eqb k 88) 45 _ (some 45 (lit≤ tt) (lit≤ tt))
-    (cond-in Some (eqb k 67) 67 _ (some 67 (lit≤ tt) (lit≤ tt))
-    (cond-in Some (eqb k 74) 34 0 (some 34 (lit≤ tt) (lit≤ tt)) (inl refl)))))
+length-some : (k : Kind) → Some (lengthIn k)
+length-some Event = some 6 (lit≤ tt) (lit≤ tt)
+length-some Trade = some 45 (lit≤ tt) (lit≤ tt)
+length-some Cancel = some 45 (lit≤ tt) (lit≤ tt)
+length-some Correction = some 67 (lit≤ tt) (lit≤ tt)
+length-some Summary = some 34 (lit≤ tt) (lit≤ tt)
+length-some Other = inl refl
+
+pub length-top : (k : Kind) (n : ℕ) → n ≡ lengthIn k → n ≤ 67
+length-top k n e = go (length-some k)
+  where
+    go : Some (lengthIn k) → n ≤ 67
+    go (inl z) = omega arith
+    go (inr h) = omega arith
+
+-- ---- the turns of `body_length`
+
+module _ (k : ℕ) (other : k ≡ listingLetter → ⊥) (type : Kind) (e : type ≡ kindOf k) (n : ℕ) (f : n ≡ lengthIn type) where
+  length-is : n ≡ messageLength k
+  length-is = f ∙ ap lengthIn e
+
+  pub none-is : n ≡ 0 → 0 ≡ bodyLength k
+  unfolding bodyLength
+  none-is z = simp (ne-eqb k listingLetter other, eq-eqb (messageLength k) 0 (sym length-is ∙ z))
+
+  pub some-is : (n ≡ 0 → ⊥) → numberBytes + n ≡ bodyLength k
+  unfolding bodyLength
+  some-is z =
+      simp (ne-eqb k listingLetter other, ne-eqb (messageLength k) 0 (λ q. z (length-is ∙ q))) (ap (λ (i : ℕ). numberBytes + i) length-is)
 
 -- a body has 10 to 71 bytes
 pub body-some : (k : ℕ) → (bodyLength k ≡ 0 → ⊥) → (10 ≤ bodyLength k) × (bodyLength k ≤ 71)
 unfolding bodyLength
-body-some k z = go (eqb k 76) refl (eqb (messageLength k) 0) refl (message-some k)
+body-some k z = go (eqb k 76) refl (eqb (messageLength k) 0) refl (length-some (kindOf k))
   where
-    go : (t : Bool) → eqb k 76 ≡ t → (u : Bool) → eqb (messageLength k) 0 ≡ u → Some (messageLength k) → (10 ≤ bodyLength k) × (bodyLength k ≤ 71)
+    go : (t : Bool) → eqb k 76 ≡ t → (u : Bool) → eqb (messageLength k) 0 ≡ u → Some (messageLength k)
+        → (10 ≤ bodyLength k) × (bodyLength k ≤ 71)
     go true t u v w = rw t (lit≤ tt, lit≤ tt)
     go false t true v w = absurd (z (rw (t, v)))
     go false t false v (inl w) = absurd (eqb-false (messageLength k) 0 v w)

@@ -4,5 +4,4 @@ pub mod Pieces
 pub mod Tapes
 pub mod Over
 pub mod Lengths
-pub mod DayW
 pub mod Promise

@@ -5,48 +5,38 @@ use mathlib.Core.Bool.{true}
 use mathlib.Core.List.{List, _++_}
 use Prim.Native.Nat.{ℕ, _≤_}
 use lib.ListN.{length}
-use Rattle.book.specs.declared.counters.Counters.{Counters}
-use Rattle.book.specs.Counting.{usedUp, sound}
-use Rattle.book.specs.Calls.{listAnswer, deliverAnswer}
+use Rattle.rows.specs.declared.Listing.{Listing}
+use Rattle.counters.specs.Counting.{lastNumber}
+use Rattle.book.specs.State.{State, Arrival, wantedIn, soundIn}
+use Rattle.book.specs.Calls.{listed, delivered, spent}
 use Rattle.book.proofs.Demand1.{refused-keeps}
-use Rattle.tape.specs.Entries.{Entry, Listing, Message, bytesOf, Sized}
-use Rattle.tape.specs.Playing.{State, stateOf, acted, further, play}
+use Rattle.tape.specs.Entries.{Entry, Lists, Delivers, bytesOf, Sized}
+use Rattle.tape.specs.Playing.{acted, further, played}
 use Rattle.tape.proofs.Tapes.{play-entry}
 
-module _ (c : Counters) (rows lines : List ℕ) where
-  abbrev before : State
-  before = stateOf c rows lines
-
-  -- an entry and what follows: the play of what follows, from that book
+module _ (s : State) where
+  -- an entry and what follows: the play of what follows, from that state
   abbrev Then : Entry → State → Type 0
-  Then e s = (more : List ℕ) → play before (bytesOf e ++ more) ≡ further (length (bytesOf e)) (play s more)
+  Then e t = (more : List ℕ) → played s (bytesOf e ++ more) ≡ further (length (bytesOf e)) (played t more)
 
   pub record PassedOver : Type 0 where
     -- a refused listing changes nothing
-    pub listing : (symbol : List ℕ) (close : ℕ) → Sized (Listing symbol close) → (listAnswer c rows lines symbol close ≡ 0 → ⊥) → Then (Listing symbol close) before
+    pub listing : (l : Listing) → Sized (Lists l) → (listed s l .answer ≡ 0 → ⊥) → Then (Lists l) s
     -- nor does a message under another number than the wanted one, or in an unsound book
-    pub unused : (k n : ℕ) (m : List ℕ) → Sized (Message k n m) → (sound c (length rows) (length lines) ≡ true → n ≡ c .wanted → n ≤ 4294967295 → ⊥) → Then (Message k n m) before
+    pub unused : (k : ℕ) (a : Arrival) → Sized (Delivers k a) → (soundIn s ≡ true → a .number ≡ wantedIn s → a .number ≤ lastNumber → ⊥)
+        → Then (Delivers k a) s
     -- a message refused under the wanted number uses it up
-    pub used : (k n : ℕ) (m : List ℕ) → Sized (Message k n m) → sound c (length rows) (length lines) ≡ true → n ≡ c .wanted → n ≤ 4294967295
-        → (deliverAnswer c rows lines n m ≡ 0 → ⊥) → Then (Message k n m) (stateOf (usedUp c) rows lines)
+    pub used : (k : ℕ) (a : Arrival) → Sized (Delivers k a) → soundIn s ≡ true → a .number ≡ wantedIn s → a .number ≤ lastNumber
+        → (delivered s a .answer ≡ 0 → ⊥) → Then (Delivers k a) (spent s)
 
-  then : (e : Entry) (s : State) → Sized e → acted before e ≡ s → Then e s
-  then e s z f more = play-entry before e more z ∙ ap (λ (x : State). further (length (bytesOf e)) (play x more)) f
-
-  listing-stays : (symbol : List ℕ) (close : ℕ) → (listAnswer c rows lines symbol close ≡ 0 → ⊥) → acted before (Listing symbol close) ≡ before
-  unfolding acted
-  listing-stays symbol close h = let k = refused-keeps c rows lines .list symbol close h in rw (k .0, k .1)
-
-  refused-message : (k n : ℕ) (m : List ℕ) (d : Counters) → (deliverAnswer c rows lines n m ≡ 0 → ⊥) → acted before (Message k n m) .counters ≡ d
-      → acted before (Message k n m) ≡ stateOf d rows lines
-  unfolding acted
-  refused-message k n m d h e = let r = refused-keeps c rows lines .deliver n m h in rw (e, r .0, r .1)
+  then : (e : Entry) (t : State) → Sized e → acted s e ≡ t → Then e t
+  then e t z f more = play-entry s e more z ∙ ap (λ (x : State). further (length (bytesOf e)) (played x more)) f
 
   pub passed-over : PassedOver
   unfolding acted
   passed-over =
       record {
-        listing = λ symbol close z h. then (Listing symbol close) before z (listing-stays symbol close h);
-        unused = λ k n m z h. let u = refused-keeps c rows lines .unused n m h in then (Message k n m) before z (refused-message k n m c (u .0) (u .1));
-        used = λ k n m z s w g h. then (Message k n m) (stateOf (usedUp c) rows lines) z (refused-message k n m (usedUp c) h (refused-keeps c rows lines .used n m s w g h));
+        listing = λ l z h. then (Lists l) s z (refused-keeps s .list l h);
+        unused = λ k a z h. then (Delivers k a) s z (refused-keeps s .unused a h .1);
+        used = λ k a z h w g f. then (Delivers k a) (spent s) z (refused-keeps s .used a h w g f);
       }

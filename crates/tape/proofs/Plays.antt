@@ -10,11 +10,11 @@ use lib.ListN.{length, take, drop, getD, length-drop}
 use lib.Seq.{take-all, length-take-le, drop-drop}
 use Rattle.octets.specs.Run.{part}
 use Rattle.numbers.specs.Number.{be}
-use Rattle.book.specs.declared.counters.Counters.{Counters}
-use Rattle.book.specs.declared.Said.{Said}
-use Rattle.book.specs.Calls.{listSaid, listRows, deliverSaid, deliverRows, deliverLines}
-use Rattle.tape.specs.Entries.{listingOf, messageOf, headOf, entryOf}
-use Rattle.tape.specs.Playing.{State, stateOf, acted, Play, stopped, further, playSome, play, played, playRows, playLines}
+use Rattle.rows.specs.declared.Listing.{Listing}
+use Rattle.book.specs.State.{State, Outcome, Arrival, arrives}
+use Rattle.book.specs.Calls.{listed, delivered}
+use Rattle.tape.specs.Entries.{listingLetter, Lists, listingIn, arrivalIn, delivery, headOf, entryOf}
+use Rattle.tape.specs.Playing.{acted, Play, stopped, further, playSome, played}
 use Rattle.tape.specs.declared.Stop.{Stop}
 use Rattle.tape.specs.declared.Stop.the-variants.{Ended}
 use Rattle.tape.specs.declared.entries.Head.{Head}
@@ -29,36 +29,34 @@ rest-all b at =
     let l : length (drop at b) ≤ length b - at = omega (arith, length-drop at b) in
     take-all (length b - at) (drop at b) l
 
-module _ (c : Counters) (rows lines b : List ℕ) where
-  abbrev before : State
-  before = stateOf c rows lines
+listing-is : (b symbol : List ℕ) (close : ℕ) → symbol ≡ part b 1 8 → close ≡ be (part b 9 4)
+    → record { symbol = symbol; close = close } ≡ listingIn b
+listing-is b symbol close e f = rw (e, f)
 
-  pub listing-acted : (symbol : List ℕ) (close : ℕ) → symbol ≡ part b 1 8 → close ≡ be (part b 9 4) → (s : Said) (r : List ℕ)
-      → s ≡ listSaid c rows lines symbol close → r ≡ listRows c rows lines symbol close
-      → (s .counters ≡ acted before (listingOf b) .counters) × (r ≡ acted before (listingOf b) .rows)
-  unfolding acted
-  listing-acted symbol close e f s r h g = (ap (λ (x : Said). x .counters) h ∙ rw (e, f), g ∙ rw (e, f))
+arrival-is : (b : List ℕ) (number : ℕ) (m : List ℕ) → number ≡ be (part b 1 4) → m ≡ drop 5 b → arrives number m ≡ arrivalIn b
+arrival-is b number m e f = rw (e, f)
 
-  pub message-acted : (number : ℕ) (m : List ℕ) → number ≡ be (part b 1 4) → m ≡ drop 5 b → (s : Said) (r l : List ℕ)
-      → s ≡ deliverSaid c rows lines number m → r ≡ deliverRows c rows lines number m → l ≡ deliverLines c rows lines number m
-      → (s .counters ≡ acted before (messageOf b) .counters) × ((r ≡ acted before (messageOf b) .rows) × (l ≡ acted before (messageOf b) .lines))
+module _ (s : State) (b : List ℕ) where
+  pub listing-acted : (symbol : List ℕ) (close : ℕ) → symbol ≡ part b 1 8 → close ≡ be (part b 9 4) → (o : Outcome)
+      → o ≡ listed s (record { symbol = symbol; close = close }) → o .state ≡ acted s (Lists (listingIn b))
   unfolding acted
-  message-acted number m e f s r l h g k =
-      (ap (λ (x : Said). x .counters) h ∙ rw (e, f), (g ∙ rw (e, f), k ∙ rw (e, f)))
+  listing-acted symbol close e f o h =
+      ap (λ (x : Outcome). x .state) h ∙ ap (λ (l : Listing). listed s l .state) (listing-is b symbol close e f)
+
+  pub message-acted : (number : ℕ) (m : List ℕ) → number ≡ be (part b 1 4) → m ≡ drop 5 b → (o : Outcome)
+      → o ≡ delivered s (arrives number m) → o .state ≡ acted s (delivery b)
+  unfolding acted
+  message-acted number m e f o h = ap (λ (x : Outcome). x .state) h ∙ ap (λ (a : Arrival). delivered s a .state) (arrival-is b number m e f)
 
   -- which of the two the kind says
-  module _ (x : ℕ) (is : x ≡ getD b 0 0) where
-    pub listing-played : x ≡ 76 → (k : Counters) (r : List ℕ)
-        → (k ≡ acted before (listingOf b) .counters) × (r ≡ acted before (listingOf b) .rows)
-        → (k ≡ acted before (entryOf b) .counters) × ((r ≡ acted before (entryOf b) .rows) × (lines ≡ acted before (entryOf b) .lines))
-    unfolding acted entryOf
-    listing-played e k r h = rw (eq-eqb (getD b 0 0) 76 (sym is ∙ e)) (h .0, (h .1, refl))
-
-    pub message-played : (x ≡ 76 → ⊥) → (k : Counters) (r l : List ℕ)
-        → (k ≡ acted before (messageOf b) .counters) × ((r ≡ acted before (messageOf b) .rows) × (l ≡ acted before (messageOf b) .lines))
-        → (k ≡ acted before (entryOf b) .counters) × ((r ≡ acted before (entryOf b) .rows) × (l ≡ acted before (entryOf b) .lines))
+  module _ (x : ℕ) (is : x ≡ getD b 0 0) (t : State) where
+    pub listing-played : x ≡ listingLetter → t ≡ acted s (Lists (listingIn b)) → t ≡ acted s (entryOf b)
     unfolding entryOf
-    message-played e k r l h = rw (ne-eqb (getD b 0 0) 76 (λ q. e (is ∙ q))) h
+    listing-played e h = rw (eq-eqb (getD b 0 0) listingLetter (sym is ∙ e)) h
+
+    pub message-played : (x ≡ listingLetter → ⊥) → t ≡ acted s (delivery b) → t ≡ acted s (entryOf b)
+    unfolding entryOf
+    message-played e h = rw (ne-eqb (getD b 0 0) listingLetter (λ q. e (is ∙ q))) h
 
 -- ---- how many entries are allowed does not matter
 
@@ -72,23 +70,27 @@ enough zero (suc j) s [] l m = refl
 enough zero (suc j) s (x ∷ b) l m = absurd (omega arith)
 enough (suc k) zero s [] l m = refl
 enough (suc k) zero s (x ∷ b) l m = absurd (omega arith)
-enough (suc k) (suc j) s b l m = go (headOf b) refl (λ n e. enough k j (acted s (entryOf (take n b))) (drop n b) (shorter b n k e l) (shorter b n j e m))
+enough (suc k) (suc j) s b l m =
+    go (headOf b) refl (λ n e. enough k j (acted s (entryOf (take n b))) (drop n b) (shorter b n k e l) (shorter b n j e m))
   where
     go : (h : Head) → headOf b ≡ h
-        → ((n : ℕ) → headOf b ≡ Whole n → playSome k (acted s (entryOf (take n b))) (drop n b) ≡ playSome j (acted s (entryOf (take n b))) (drop n b))
+        →
+        ((n : ℕ) → headOf b ≡ Whole n → playSome k (acted s (entryOf (take n b))) (drop n b) ≡ playSome j
+        (acted s (entryOf (take n b))) (drop n b))
         → playSome (suc k) s b ≡ playSome (suc j) s b
     go (Stops w) e r = rw e
     go (Whole n) e r = rw e (ap (further n) (r n e))
 
 -- ---- a play, by what stands at the head
 
-pub play-stops : (s : State) (b : List ℕ) (w : Stop) → headOf b ≡ Stops w → play s b ≡ stopped s w
-unfolding play playSome headOf
+pub play-stops : (s : State) (b : List ℕ) (w : Stop) → headOf b ≡ Stops w → played s b ≡ stopped s w
+unfolding played playSome headOf
 play-stops s [] w e = let f : Ended ≡ w = cc in ap (stopped s) f
 play-stops s (x ∷ b) w e = rw e
 
-pub play-whole : (s : State) (b : List ℕ) (n : ℕ) → headOf b ≡ Whole n → play s b ≡ further n (play (acted s (entryOf (take n b))) (drop n b))
-unfolding play playSome headOf
+pub play-whole : (s : State) (b : List ℕ) (n : ℕ) → headOf b ≡ Whole n
+    → played s b ≡ further n (played (acted s (entryOf (take n b))) (drop n b))
+unfolding played playSome headOf
 play-whole s [] n e = absurd (never e)
 play-whole s (x ∷ b) n e =
     let l : length (drop n (x ∷ b)) ≤ length b = shorter (x ∷ b) n (length b) e (omega arith) in
@@ -115,22 +117,12 @@ standing-length m at n l =
     let e : at + n - at ≡ n = omega arith in
     rw e (length-take-le n (drop at m) (omega arith))
 
-module _ (s now : State) (m : List ℕ) (at : ℕ) (so : further at (play now (drop at m)) ≡ play s m) where
-  play-ended : (w : Stop) → headOf (drop at m) ≡ Stops w → play s m ≡ record { state = now; used = at; stop = w }
-  play-ended w e = sym so ∙ ap (further at) (play-stops now (drop at m) w e) ∙ rw add-zero
+module _ (s now : State) (m : List ℕ) (at : ℕ) (so : further at (played now (drop at m)) ≡ played s m) where
+  pub play-returns : (w : Stop) → headOf (drop at m) ≡ Stops w → record { state = now; used = at; stop = w } ≡ played s m
+  play-returns w e = sym (ap (further at) (play-stops now (drop at m) w e) ∙ rw add-zero) ∙ so
 
-  pub play-returns : (w : Stop) → headOf (drop at m) ≡ Stops w
-      → (record { counters = now .counters; used = at; stop = w } ≡ played s m) × ((now .rows ≡ playRows s m) × (now .lines ≡ playLines s m))
-  unfolding played playRows playLines
-  play-returns w e =
-      let x = play-ended w e in
-      (sym (ap (λ (p : Play). record { counters = p .state .counters; used = p .used; stop = p .stop }) x), (sym (ap (λ (p : Play). p .state .rows) x), sym (ap (λ (p : Play). p .state .lines) x)))
-
-  pub play-turn : (n k : ℕ) → headOf (drop at m) ≡ Whole n → k ≡ n → (c : Counters) (rows lines : List ℕ)
-      → c ≡ acted now (entryOf (take k (drop at m))) .counters
-      → rows ≡ acted now (entryOf (take k (drop at m))) .rows
-      → lines ≡ acted now (entryOf (take k (drop at m))) .lines
-      → further (at + n) (play (stateOf c rows lines) (drop (at + n) m)) ≡ play s m
-  play-turn n k e f c rows lines g h l =
-      let x : stateOf c rows lines ≡ acted now (entryOf (take n (drop at m))) = rw (g, h, l, f) in
+  pub play-turn : (n k : ℕ) → headOf (drop at m) ≡ Whole n → k ≡ n → (t : State) → t ≡ acted now (entryOf (take k (drop at m)))
+      → further (at + n) (played t (drop (at + n) m)) ≡ played s m
+  play-turn n k e f t g =
+      let x : t ≡ acted now (entryOf (take n (drop at m))) = g ∙ ap (λ (i : ℕ). acted now (entryOf (take i (drop at m)))) f in
       rw (x, ← drop-drop, ← further-further) (ap (further at) (sym (play-whole now (drop at m) n e)) ∙ so)

@@ -1,9 +1,14 @@
 -- The contract of `play` leaves one possible answer and one possible content for each lent byte. `Learnt` is that contract as the
 -- compiler hands it to a caller: of the arguments, of the result, and of the arguments again as the call returns.
 -- Assumes nothing.
-use mathlib.Core.Path.{_≡_, refl, sym, _∙_}
+use Prim.Native.Nat.{ℕ}
+use mathlib.Core.Path.{_≡_, refl, ap, sym, _∙_}
+use mathlib.Core.List.{List}
+use Rattle.counters.specs.declared.Counters.{Counters}
+use Rattle.book.specs.State.{State, lent}
+use Rattle.tape.specs.declared.Stop.{Stop}
 use Rattle.tape.specs.declared.Played.{Played}
-use Rattle.tape.specs.Playing.{stateOf, played, playRows, playLines}
+use Rattle.tape.specs.Playing.{Play, came, played}
 use contract.Lifetimes.{Lfts}
 use borrow.Fn.World.{ArgsD}
 use borrow.Fn.Kinds.{endedOf}
@@ -13,12 +18,38 @@ use Rattle.tape.proofs.play as play
 use Rattle.tape.proofs.play.Reads as play-reads
 use Rattle.tape.proofs.play.Kinds as play-kinds
 
+-- two plays that came to the same told the same
+told-same : (r r′ : Played) (rows lines rows′ lines′ : List ℕ) (p : Play) → came r rows lines ≡ p → came r′ rows′ lines′ ≡ p → r ≡ r′
+told-same r r′ rows lines rows′ lines′ p h h′ =
+    let e = h ∙ sym h′ in
+    same (r .counters) (r .used) (r .stop)
+    (ap (λ (x : Play). x .state .counters) e)
+    (ap (λ (x : Play). x .used) e)
+    (ap (λ (x : Play). x .stop) e)
+  where
+    same : (c : Counters) (n : ℕ) (w : Stop) → c ≡ r′ .counters → n ≡ r′ .used → w ≡ r′ .stop
+        → record { counters = c; used = n; stop = w } ≡ r′
+    same c n w e f g = rw (e, f, g)
+
 module _ (κs : Lfts 3) (a : ArgsD play.signature κs) where
+  -- what the call is lent, and what it is given
+  abbrev pub playFrom : State
+  playFrom = lent (a .0) (now (a .1 .0)) (now (a .1 .1 .0))
+
+  abbrev pub playGiven : List ℕ
+  playGiven = now (a .1 .1 .1 .0)
+
+  -- what comes of it
+  abbrev pub playLeft : Played → AtExit (endedOf 3 play-kinds.ps play-kinds.r) κs → Play
+  playLeft r s = came r (now (s .1 .0)) (now (s .1 .1 .0))
+
   pub play-one : (r r′ : Played) (s s′ : AtExit (endedOf 3 play-kinds.ps play-kinds.r) κs)
-      → play-reads.Learnt κs a r s → play-reads.Learnt κs a r′ s′ → (r ≡ r′) × (now (s .1 .0) ≡ now (s′ .1 .0)) × (now (s .1 .1 .0) ≡ now (s′ .1 .1 .0))
-  play-one r r′ s s′ h h′ = (h .0 ∙ sym (h′ .0), h .1 .0 ∙ sym (h′ .1 .0), h .1 .1 ∙ sym (h′ .1 .1))
+      → play-reads.Learnt κs a r s → play-reads.Learnt κs a r′ s′
+      → (r ≡ r′) × (now (s .1 .0) ≡ now (s′ .1 .0)) × (now (s .1 .1 .0) ≡ now (s′ .1 .1 .0))
+  play-one r r′ s s′ h h′ =
+      (told-same r r′ _ _ _ _ _ h h′, ap (λ (x : Play). x .state .rows) (h ∙ sym h′), ap (λ (x : Play). x .state .lines) (h ∙ sym h′))
 
   -- what a caller is told, and nothing else
   pub play-says : (r : Played) (s : AtExit (endedOf 3 play-kinds.ps play-kinds.r) κs)
-      → play-reads.Learnt κs a r s ≡ ((r ≡ played (stateOf (a .0) (now (a .1 .0)) (now (a .1 .1 .0))) (now (a .1 .1 .1 .0))) × ((now (s .1 .0) ≡ playRows (stateOf (a .0) (now (a .1 .0)) (now (a .1 .1 .0))) (now (a .1 .1 .1 .0))) × (now (s .1 .1 .0) ≡ playLines (stateOf (a .0) (now (a .1 .0)) (now (a .1 .1 .0))) (now (a .1 .1 .1 .0)))))
+      → play-reads.Learnt κs a r s ≡ (playLeft r s ≡ played playFrom playGiven)
   play-says r s = refl

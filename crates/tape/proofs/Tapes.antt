@@ -10,13 +10,16 @@ use lib.Dec.{eqb, leb, lit<}
 use lib.ListN.{length, take, drop, length-append, length-drop, take-append-drop}
 use lib.Seq.{getD-drop, getD-append-add, take-append-seam, drop-append-seam, length-take-le}
 use Rattle.octets.specs.Run.{part, Bytes}
+use Rattle.kinds.specs.Kinds.{kindOf}
 use Rattle.numbers.specs.Number.{be, digits}
 use Rattle.octets.proofs.Laws.{part-length}
 use Rattle.numbers.proofs.Laws.{be-below, digits-length}
 use Rattle.numbers.proofs.Trips.{be-digits, digits-part}
 use Rattle.octets.proofs.Trips.{join, walk, here, last}
-use Rattle.tape.specs.Entries.{messageLength, bodyLength, Entry, Listing, Message, bytesOf, Sized, headOf, listingOf, messageOf, entryOf, Each, tapeOf, Tape, endOf}
-use Rattle.tape.specs.Playing.{State, acted, actedAll, further, play}
+use Rattle.tape.specs.Entries.{messageLength, bodyLength, Entry, Lists, Delivers, bytesOf, Sized, headOf, listingIn, delivery}
+use Rattle.tape.specs.Entries.{entryOf, Each, tapeOf, Tape, endOf}
+use Rattle.book.specs.State.{State, arrives}
+use Rattle.tape.specs.Playing.{acted, actedAll, further, played}
 use Rattle.tape.specs.declared.Stop.{Stop}
 use Rattle.tape.specs.declared.Stop.the-variants.{Ended, NoKind, CutShort}
 use Rattle.tape.specs.declared.entries.Head.{Head}
@@ -28,6 +31,7 @@ use Rattle.tape.proofs.Plays.{shorter, play-stops, play-whole}
 
 module _ (k : ℕ) (some : 0 < messageLength k) where
   pub not-listing : k ≡ 76 → ⊥
+  unfolding kindOf
   not-listing e = let z : 0 < messageLength 76 = rw e at some in omega arith
 
   pub message-body : bodyLength k ≡ 4 + messageLength k
@@ -42,7 +46,7 @@ module _ (symbol : List ℕ) (close : ℕ) (long : length symbol ≡ 8) (small :
   abbrev listingBytes : List ℕ
   listingBytes = 76 ∷ symbol ++ digits 4 close
 
-  listing-there : entryOf listingBytes ≡ Listing symbol close
+  listing-there : entryOf listingBytes ≡ Lists (record { symbol = symbol; close = close })
   unfolding entryOf
   listing-there =
       let d : drop 9 listingBytes ≡ digits 4 close = walk listingBytes 1 8 9 symbol (digits 4 close) refl long refl in
@@ -56,14 +60,15 @@ module _ (symbol : List ℕ) (close : ℕ) (long : length symbol ≡ 8) (small :
   listing-head : (more : List ℕ) → headOf (listingBytes ++ more) ≡ Whole 13
   unfolding bodyLength
   listing-head more =
-      let l : 12 ≤ length ((symbol ++ digits 4 close) ++ more) = omega (arith, length-append (symbol ++ digits 4 close) more, listing-length) in
+      let l : 12 ≤ length ((symbol ++ digits 4 close) ++ more)
+      = omega (arith, length-append (symbol ++ digits 4 close) more, listing-length) in
       stands 76 ((symbol ++ digits 4 close) ++ more) (λ z. omega arith) l
 
 module _ (k number : ℕ) (m : List ℕ) (long : length m ≡ messageLength k) (some : 0 < messageLength k) (small : number < 256 ^ 4) where
   abbrev messageBytes : List ℕ
   messageBytes = k ∷ digits 4 number ++ m
 
-  message-there : entryOf messageBytes ≡ Message k number m
+  message-there : entryOf messageBytes ≡ Delivers k (arrives number m)
   unfolding entryOf
   message-there =
       let d : drop 5 messageBytes ≡ m = walk messageBytes 1 4 5 (digits 4 number) m refl (digits-length 4 number) refl in
@@ -76,20 +81,22 @@ module _ (k number : ℕ) (m : List ℕ) (long : length m ≡ messageLength k) (
   message-head : (more : List ℕ) → headOf (messageBytes ++ more) ≡ Whole (length messageBytes)
   message-head more =
       let b = message-body k some in
-      let l : bodyLength k ≤ length ((digits 4 number ++ m) ++ more) = omega (arith, length-append (digits 4 number ++ m) more, message-long) in
+      let l : bodyLength k ≤ length ((digits 4 number ++ m) ++ more)
+      = omega (arith, length-append (digits 4 number ++ m) more, message-long) in
       stands k ((digits 4 number ++ m) ++ more) (λ z. omega arith) l ∙ ap Whole (sym message-long)
 
 -- the bytes of an entry say which entry it is
 pub entry-again : (e : Entry) → Sized e → entryOf (bytesOf e) ≡ e
 unfolding bytesOf
-entry-again (Listing symbol close) z = listing-there symbol close (z .0) (z .1)
-entry-again (Message k n m) z = message-there k n m (z .0) (z .1) (z .2)
+entry-again (Lists l) z = listing-there (l .symbol) (l .close) (z .0) (z .1)
+entry-again (Delivers k a) z = message-there k (a .number) (a .message) (z .0) (z .1) (z .2)
 
 -- and it stands at the head of its bytes, whatever follows
 pub entry-head : (e : Entry) (more : List ℕ) → Sized e → headOf (bytesOf e ++ more) ≡ Whole (length (bytesOf e))
 unfolding bytesOf
-entry-head (Listing symbol close) more z = listing-head symbol close (z .0) (z .1) more ∙ ap Whole (sym (listing-length symbol close (z .0) (z .1)))
-entry-head (Message k n m) more z = message-head k n m (z .0) (z .1) (z .2) more
+entry-head (Lists l) more z =
+    listing-head (l .symbol) (l .close) (z .0) (z .1) more ∙ ap Whole (sym (listing-length (l .symbol) (l .close) (z .0) (z .1)))
+entry-head (Delivers k a) more z = message-head k (a .number) (a .message) (z .0) (z .1) (z .2) more
 
 -- ---- and its bytes, from an entry that stands
 
@@ -112,7 +119,7 @@ module _ (k : ℕ) (body : List ℕ) (known : bodyLength k ≡ 0 → ⊥) (long 
   all = k ∷ body
 
   -- a listing
-  listing-back : k ≡ 76 → (bytesOf (listingOf all) ≡ all) × Sized (listingOf all)
+  listing-back : k ≡ 76 → (bytesOf (Lists (listingIn all)) ≡ all) × Sized (Lists (listingIn all))
   unfolding bytesOf bodyLength
   listing-back e =
       let l : length body ≡ 12 = long ∙ rw e in
@@ -130,7 +137,7 @@ module _ (k : ℕ) (body : List ℕ) (known : bodyLength k ≡ 0 → ⊥) (long 
       go true t = absurd (known (rw (ne-eqb k 76 e, t)))
       go false t = let z = eqb-false (messageLength k) 0 t in omega arith
 
-  message-back : (k ≡ 76 → ⊥) → (bytesOf (messageOf all) ≡ all) × Sized (messageOf all)
+  message-back : (k ≡ 76 → ⊥) → (bytesOf (delivery all) ≡ all) × Sized (delivery all)
   unfolding bytesOf
   message-back e =
       let s = some-message e in
@@ -140,7 +147,8 @@ module _ (k : ℕ) (body : List ℕ) (known : bodyLength k ≡ 0 → ⊥) (long 
       let t : part all 5 (messageLength k) ≡ drop 5 all = last all 5 (messageLength k) (drop 5 all) refl r in
       let j : part all 1 4 ++ part all 5 (messageLength k) ≡ part all 1 (4 + messageLength k) = join all 1 4 (messageLength k) 5 refl in
       let w : part all 1 (4 + messageLength k) ≡ body = last all 1 (4 + messageLength k) body refl (long ∙ b) in
-      let f : digits 4 (be (part all 1 4)) ++ drop 5 all ≡ body = ap (λ (x : List ℕ). x ++ drop 5 all) d ∙ ap (λ (x : List ℕ). part all 1 4 ++ x) (sym t) ∙ j ∙ w in
+      let f : digits 4 (be (part all 1 4)) ++ drop 5 all ≡ body
+      = ap (λ (x : List ℕ). x ++ drop 5 all) d ∙ ap (λ (x : List ℕ). part all 1 4 ++ x) (sym t) ∙ j ∙ w in
       (ap (λ (x : List ℕ). k ∷ x) f, (r, s, be-below all 1 4 h))
 
   pub entry-back : (bytesOf (entryOf all) ≡ all) × Sized (entryOf all)
@@ -152,11 +160,14 @@ module _ (k : ℕ) (body : List ℕ) (known : bodyLength k ≡ 0 → ⊥) (long 
       go false t = rw t (message-back (eqb-false k 76 t))
 
 -- an entry that stands at the head of bytes: those bytes are its, and it has its size
-pub entry-found : (b : List ℕ) (n : ℕ) → Bytes b → headOf b ≡ Whole n → (bytesOf (entryOf (take n b)) ≡ take n b) × Sized (entryOf (take n b))
+pub entry-found : (b : List ℕ) (n : ℕ) → Bytes b → headOf b ≡ Whole n
+    → (bytesOf (entryOf (take n b)) ≡ take n b) × Sized (entryOf (take n b))
 entry-found b n h e =
     let w = standing b n e in
-    let t : take n b ≡ w .kind ∷ take (bodyLength (w .kind)) (w .after) = ap (λ (x : List ℕ). take n x) (w .bytes) ∙ ap (λ (x : ℕ). take x (w .kind ∷ w .after)) (w .size) in
-    let l : length (take (bodyLength (w .kind)) (w .after)) ≡ bodyLength (w .kind) = length-take-le (bodyLength (w .kind)) (w .after) (w .fits) in
+    let t : take n b ≡ w .kind ∷ take (bodyLength (w .kind)) (w .after)
+    = ap (λ (x : List ℕ). take n x) (w .bytes) ∙ ap (λ (x : ℕ). take x (w .kind ∷ w .after)) (w .size) in
+    let l : length (take (bodyLength (w .kind)) (w .after)) ≡ bodyLength (w .kind)
+    = length-take-le (bodyLength (w .kind)) (w .after) (w .fits) in
     rw t (entry-back (w .kind) (take (bodyLength (w .kind)) (w .after)) (w .known) l (rw t at (bytes-take b n h)))
 
 -- ---- entries and a rest
@@ -212,10 +223,15 @@ same-entry : (e e′ : Entry) (more more′ : List ℕ) → Sized e → Sized e�
 same-entry e e′ more more′ z z′ f =
     let h : Whole (length (bytesOf e)) ≡ Whole (length (bytesOf e′)) = sym (entry-head e more z) ∙ ap headOf f ∙ entry-head e′ more′ z′ in
     let n : length (bytesOf e) ≡ length (bytesOf e′) = cc in
-    let t : take (length (bytesOf e)) (bytesOf e ++ more) ≡ take (length (bytesOf e′)) (bytesOf e′ ++ more′) = ap (λ (x : List ℕ). take (length (bytesOf e)) x) f ∙ ap (λ (x : ℕ). take x (bytesOf e′ ++ more′)) n in
-    let d : drop (length (bytesOf e)) (bytesOf e ++ more) ≡ drop (length (bytesOf e′)) (bytesOf e′ ++ more′) = ap (λ (x : List ℕ). drop (length (bytesOf e)) x) f ∙ ap (λ (x : ℕ). drop x (bytesOf e′ ++ more′)) n in
-    let b : bytesOf e ≡ bytesOf e′ = sym (take-append-seam (bytesOf e) more) ∙ t ∙ take-append-seam (bytesOf e′) more′ in
-    (sym (entry-again e z) ∙ ap entryOf b ∙ entry-again e′ z′, sym (drop-append-seam (bytesOf e) more) ∙ d ∙ drop-append-seam (bytesOf e′) more′)
+    let t : take (length (bytesOf e)) (bytesOf e ++ more) ≡ take (length (bytesOf e′)) (bytesOf e′ ++ more′)
+    = ap (λ (x : List ℕ). take (length (bytesOf e)) x) f ∙ ap (λ (x : ℕ). take x (bytesOf e′ ++ more′)) n in
+    let d : drop (length (bytesOf e)) (bytesOf e ++ more) ≡ drop (length (bytesOf e′)) (bytesOf e′ ++ more′)
+    = ap (λ (x : List ℕ). drop (length (bytesOf e)) x) f ∙ ap (λ (x : ℕ). drop x (bytesOf e′ ++ more′)) n in
+    let b : bytesOf e ≡ bytesOf e′ = sym (take-append-seam (bytesOf e) more) ∙ t ∙ take-append-seam (bytesOf e′) more′ in (
+      sym (entry-again e z) ∙ ap entryOf b ∙ entry-again e′ z′,
+      sym (drop-append-seam (bytesOf e) more) ∙ d
+          ∙ drop-append-seam (bytesOf e′) more′,
+    )
 
 cons-same : {e e′ : Entry} {es es′ : List Entry} → e ≡ e′ → es ≡ es′ → e ∷ es ≡ e′ ∷ es′
 cons-same p q = cc
@@ -229,13 +245,15 @@ one-for [] [] rest rest′ z z′ n n′ f = (refl, f)
 one-for [] (e ∷ es) rest rest′ z z′ n n′ f = absurd (n e (tapeOf es ++ rest′) (z′ .0) (f ∙ append-assoc (bytesOf e) (tapeOf es) rest′))
 one-for (e ∷ es) [] rest rest′ z z′ n n′ f = absurd (n′ e (tapeOf es ++ rest) (z .0) (sym f ∙ append-assoc (bytesOf e) (tapeOf es) rest))
 one-for (e ∷ es) (e′ ∷ es′) rest rest′ z z′ n n′ f =
-    let g : bytesOf e ++ (tapeOf es ++ rest) ≡ bytesOf e′ ++ (tapeOf es′ ++ rest′) = sym (append-assoc (bytesOf e) (tapeOf es) rest) ∙ f ∙ append-assoc (bytesOf e′) (tapeOf es′) rest′ in
+    let g : bytesOf e ++ (tapeOf es ++ rest) ≡ bytesOf e′ ++ (tapeOf es′ ++ rest′)
+    = sym (append-assoc (bytesOf e) (tapeOf es) rest) ∙ f ∙ append-assoc (bytesOf e′) (tapeOf es′) rest′ in
     let s = same-entry e e′ (tapeOf es ++ rest) (tapeOf es′ ++ rest′) (z .0) (z′ .0) g in
     let r = one-for es es′ rest rest′ (z .1) (z′ .1) n n′ (s .1) in
     (cons-same (s .0) (r .0), r .1)
 
 pub split-one : {b : List ℕ} {es es′ : List Entry} {rest rest′ : List ℕ} → Tape b es rest → Tape b es′ rest′ → (es ≡ es′) × (rest ≡ rest′)
-split-one {b} {es} {es′} {rest} {rest′} t t′ = one-for es es′ rest rest′ (t .each) (t′ .each) (t .ends) (t′ .ends) (sym (t .bytes) ∙ t′ .bytes)
+split-one {b} {es} {es′} {rest} {rest′} t t′ =
+    one-for es es′ rest rest′ (t .each) (t′ .each) (t .ends) (t′ .ends) (sym (t .bytes) ∙ t′ .bytes)
 
 -- bytes are entries and a rest in one way, and in no other
 pub record Exactly (b : List ℕ) : Type 0 where
@@ -268,24 +286,25 @@ ends-stops b h n = go (headOf b) refl
         absurd (n (entryOf (take k b)) (drop k b) (f .1) (sym (ap (λ (x : List ℕ). x ++ drop k b) (f .0) ∙ take-append-drop k b)))
 
 -- an entry, and then what follows
-pub play-entry : (s : State) (e : Entry) (more : List ℕ) → Sized e → play s (bytesOf e ++ more) ≡ further (length (bytesOf e)) (play (acted s e) more)
+pub play-entry : (s : State) (e : Entry) (more : List ℕ) → Sized e
+    → played s (bytesOf e ++ more) ≡ further (length (bytesOf e)) (played (acted s e) more)
 play-entry s e more z =
     play-whole s (bytesOf e ++ more) (length (bytesOf e)) (entry-head e more z)
     ∙ rw (take-append-seam (bytesOf e) more, drop-append-seam (bytesOf e) more, entry-again e z)
 
 play-entries : (s : State) (es : List Entry) (rest : List ℕ) → Each es → headOf rest ≡ Stops (endOf rest)
-    → play s (tapeOf es ++ rest) ≡ record { state = actedAll s es; used = length (tapeOf es); stop = endOf rest }
+    → played s (tapeOf es ++ rest) ≡ record { state = actedAll s es; used = length (tapeOf es); stop = endOf rest }
 unfolding actedAll
 play-entries s [] rest z h = play-stops s rest (endOf rest) h
 play-entries s (e ∷ es) rest z h =
-    ap (play s) (append-assoc (bytesOf e) (tapeOf es) rest)
+    ap (played s) (append-assoc (bytesOf e) (tapeOf es) rest)
     ∙ play-entry s e (tapeOf es ++ rest) (z .0)
     ∙ ap (further (length (bytesOf e))) (play-entries (acted s e) es rest (z .1) h)
     ∙ rw (length-append (bytesOf e) (tapeOf es))
 
 -- the entries' effects in order; the entries' bytes used; and the rest says why it stopped
 pub play-split : (s : State) (b : List ℕ) (es : List Entry) (rest : List ℕ) → Bytes b → Tape b es rest
-    → play s b ≡ record { state = actedAll s es; used = length (tapeOf es); stop = endOf rest }
+    → played s b ≡ record { state = actedAll s es; used = length (tapeOf es); stop = endOf rest }
 play-split s b es rest h t =
     let g : Bytes (tapeOf es ++ rest) = λ i. rw (t .bytes) at (h i) in
-    ap (play s) (t .bytes) ∙ play-entries s es rest (t .each) (ends-stops rest (bytes-behind (tapeOf es) rest g) (t .ends))
+    ap (played s) (t .bytes) ∙ play-entries s es rest (t .each) (ends-stops rest (bytes-behind (tapeOf es) rest g) (t .ends))

@@ -8,75 +8,117 @@ use lib.Dec.{eqb, leb}
 use lib.ListN.{length, drop, getD}
 use Rattle.octets.specs.Run.{part}
 use Rattle.numbers.specs.Number.{be, digits}
+use Rattle.kinds.specs.declared.Kind.{Kind}
+use Rattle.kinds.specs.declared.Kind.the-variants.{Event, Trade, Cancel, Correction, Summary, Other}
+use Rattle.kinds.specs.Kinds.{letterOf, kindOf}
+use Rattle.rows.specs.declared.Listing.{Listing}
+use Rattle.book.specs.State.{Arrival, arrives}
 use Rattle.tape.specs.declared.Stop.{Stop}
 use Rattle.tape.specs.declared.Stop.the-variants.{Ended, NoKind, CutShort}
 use Rattle.tape.specs.declared.entries.Head.{Head}
 use Rattle.tape.specs.declared.entries.Head.the-variants.{Whole, Stops}
 
+-- ---- the numbers of an entry
+
+-- the kind byte of a listing, L
+abbrev pub listingLetter : ℕ
+listingLetter = 76
+
+-- how many bytes the kind, the symbol and the close of a listing, and the number of a message have
+abbrev pub kindBytes : ℕ
+kindBytes = 1
+
+abbrev pub symbolBytes : ℕ
+symbolBytes = 8
+
+abbrev pub closeBytes : ℕ
+closeBytes = 4
+
+abbrev pub numberBytes : ℕ
+numberBytes = 4
+
+-- how many bytes are delivered of each type; none of what is no type
+abbrev pub lengthIn : Kind → ℕ
+lengthIn Event = 6
+lengthIn Trade = 45
+lengthIn Cancel = 45
+lengthIn Correction = 67
+lengthIn Summary = 34
+lengthIn Other = 0
+
 -- ---- the kinds
 
--- how many bytes are delivered, by the kind S T X C J; 0 for any other byte
+-- the bytes that a kind byte says are delivered; 0 if it is the letter of no type
 abbrev pub messageLength : ℕ → ℕ
-messageLength k = cond (eqb k 83) 6 (cond (eqb k 84) 45 (cond (eqb k 88) 45 (cond (eqb k 67) 67 (cond (eqb k 74) 34 0))))
+messageLength k = lengthIn (kindOf k)
 
--- L: symbol 8, close 4; S T X C J: number 4, and the message; 0 where the byte is no kind
+-- L: symbol, close; S T X C J: number, and the message; 0 where the byte is no kind
 unfoldable pub bodyLength : ℕ → ℕ
-bodyLength k = cond (eqb k 76) (8 + 4) (cond (eqb (messageLength k) 0) 0 (4 + messageLength k))
+bodyLength k =
+    cond (eqb k listingLetter) (symbolBytes + closeBytes) (cond (eqb (messageLength k) 0) 0 (numberBytes + messageLength k))
 
--- the six kinds, each with the length of its entries
-pub record Kind : Type 0 where
+-- a kind of entry: its letter, and how long such entries are
+pub record EntryKind : Type 0 where
   pub letter : ℕ
   pub size : ℕ
 
-abbrev pub kinds : List Kind
-kinds =
-    -- L: kind, symbol, close
-    record { letter = 76; size = 1 + 8 + 4 }
-    -- S T X C J: kind, number, message
-    ∷ record { letter = 83; size = 1 + 4 + 6 }
-    ∷ record { letter = 84; size = 1 + 4 + 45 }
-    ∷ record { letter = 88; size = 1 + 4 + 45 }
-    ∷ record { letter = 67; size = 1 + 4 + 67 }
-    ∷ record { letter = 74; size = 1 + 4 + 34 }
+-- kind, number, message
+abbrev pub messageKind : Kind → EntryKind
+messageKind k = record { letter = letterOf k; size = kindBytes + numberBytes + lengthIn k }
+
+-- the six kinds: L, then S T X C J
+abbrev pub entryKinds : List EntryKind
+entryKinds =
+    -- kind, symbol, close
+    record { letter = listingLetter; size = kindBytes + symbolBytes + closeBytes }
+    ∷ messageKind Event
+    ∷ messageKind Trade
+    ∷ messageKind Cancel
+    ∷ messageKind Correction
+    ∷ messageKind Summary
     ∷ []
 
 -- the byte is the letter of one of these kinds
-abbrev pub isKind : ℕ → List Kind → Bool
+abbrev pub isKind : ℕ → List EntryKind → Bool
 isKind k [] = false
 isKind k (r ∷ rs) = eqb k (r .letter) || isKind k rs
 
 -- ---- entries
 
--- a listing, with its symbol and its close; or, by its kind, a number and a message
+-- a listing; or, by its kind, a message under its number
 pub data Entry : Type 0 where
-  Listing : List ℕ → ℕ → Entry
-  Message : ℕ → ℕ → List ℕ → Entry
+  Lists : Listing → Entry
+  Delivers : ℕ → Arrival → Entry
 
 -- the bytes of an entry
 unfoldable pub bytesOf : Entry → List ℕ
-bytesOf (Listing symbol close) = 76 ∷ symbol ++ digits 4 close
-bytesOf (Message kind number message) = kind ∷ digits 4 number ++ message
+bytesOf (Lists l) = listingLetter ∷ l .symbol ++ digits closeBytes (l .close)
+bytesOf (Delivers kind a) = kind ∷ digits numberBytes (a .number) ++ a .message
 
--- eight bytes of symbol and a close of four; a kind of message, a number of four bytes, and as many bytes as the kind has, whatever they are
+-- a symbol and a close of their bytes; a kind of message, a number of its bytes, and as many bytes as the kind has, whatever they are
 abbrev pub Sized : Entry → Type 0
-Sized (Listing symbol close) = (length symbol ≡ 8) × (close < 256 ^ 4)
-Sized (Message kind number message) = (length message ≡ messageLength kind) × (0 < messageLength kind) × (number < 256 ^ 4)
+Sized (Lists l) = (length (l .symbol) ≡ symbolBytes) × (l .close < 256 ^ closeBytes)
+Sized (Delivers kind a) = (length (a .message) ≡ messageLength kind) × (0 < messageLength kind) × (a .number < 256 ^ numberBytes)
 
 -- ---- what stands at the head
 
 unfoldable pub headOf : List ℕ → Head
 headOf [] = Stops Ended
-headOf (k ∷ s) = cond (eqb (bodyLength k) 0) (Stops NoKind) (cond (leb (bodyLength k) (length s)) (Whole (suc (bodyLength k))) (Stops CutShort))
+headOf (k ∷ s) =
+    cond (eqb (bodyLength k) 0) (Stops NoKind) (cond (leb (bodyLength k) (length s)) (Whole (suc (bodyLength k))) (Stops CutShort))
 
 -- the entry that all of these bytes are
-abbrev pub listingOf : List ℕ → Entry
-listingOf b = Listing (part b 1 8) (be (part b 9 4))
+abbrev pub listingIn : List ℕ → Listing
+listingIn b = record { symbol = part b kindBytes symbolBytes; close = be (part b (kindBytes + symbolBytes) closeBytes) }
 
-abbrev pub messageOf : List ℕ → Entry
-messageOf b = Message (getD b 0 0) (be (part b 1 4)) (drop 5 b)
+abbrev pub arrivalIn : List ℕ → Arrival
+arrivalIn b = arrives (be (part b kindBytes numberBytes)) (drop (kindBytes + numberBytes) b)
+
+abbrev pub delivery : List ℕ → Entry
+delivery b = Delivers (getD b 0 0) (arrivalIn b)
 
 unfoldable pub entryOf : List ℕ → Entry
-entryOf b = cond (eqb (getD b 0 0) 76) (listingOf b) (messageOf b)
+entryOf b = cond (eqb (getD b 0 0) listingLetter) (Lists (listingIn b)) (delivery b)
 
 -- ---- a tape
 

@@ -3,9 +3,9 @@
 use Prim.Native.Nat.{ℕ, zero, suc, _+_}
 use mathlib.Core.List.{List, [], _∷_, _++_}
 use lib.ListN.{length, take, drop}
-use Rattle.book.specs.declared.counters.Counters.{Counters}
-use Rattle.book.specs.Calls.{listSaid, listRows, deliverSaid, deliverRows, deliverLines}
-use Rattle.tape.specs.Entries.{Entry, Listing, Message, headOf, entryOf}
+use Rattle.book.specs.State.{State, lent}
+use Rattle.book.specs.Calls.{listed, delivered}
+use Rattle.tape.specs.Entries.{Entry, Lists, Delivers, headOf, entryOf}
 use Rattle.tape.specs.declared.Stop.{Stop}
 use Rattle.tape.specs.declared.Stop.the-variants.{Ended}
 use Rattle.tape.specs.declared.Played.{Played}
@@ -14,29 +14,10 @@ use Rattle.tape.specs.declared.entries.Head.the-variants.{Whole, Stops}
 
 -- ---- one entry
 
--- a book: its counters, and the lent bytes of its rows and lines
-pub record State : Type 0 where
-  pub counters : Counters
-  pub rows : List ℕ
-  pub lines : List ℕ
-
-abbrev pub stateOf : Counters → List ℕ → List ℕ → State
-stateOf c rows lines = record { counters = c; rows = rows; lines = lines }
-
 -- what an entry does; what the book answers is passed over
 unfoldable pub acted : State → Entry → State
-acted s (Listing symbol close) =
-    record {
-      counters = listSaid (s .counters) (s .rows) (s .lines) symbol close .counters;
-      rows = listRows (s .counters) (s .rows) (s .lines) symbol close;
-      lines = s .lines;
-    }
-acted s (Message kind number message) =
-    record {
-      counters = deliverSaid (s .counters) (s .rows) (s .lines) number message .counters;
-      rows = deliverRows (s .counters) (s .rows) (s .lines) number message;
-      lines = deliverLines (s .counters) (s .rows) (s .lines) number message;
-    }
+acted s (Lists l) = listed s l .state
+acted s (Delivers kind a) = delivered s a .state
 
 -- each entry in order
 unfoldable pub actedAll : State → List Entry → State
@@ -45,11 +26,15 @@ actedAll s (e ∷ es) = actedAll (acted s e) es
 
 -- ---- a play
 
--- the book after it, how many bytes it used, and why it stopped
+-- what came of it: the state that is left, how many bytes were used, and why it stopped
 pub record Play : Type 0 where
   pub state : State
   pub used : ℕ
   pub stop : Stop
+
+-- what a call that told so, and left these rooms, comes to
+abbrev pub came : Played → List ℕ → List ℕ → Play
+came p rows lines = record { state = lent (p .counters) rows lines; used = p .used; stop = p .stop }
 
 abbrev pub stopped : State → Stop → Play
 stopped s w = record { state = s; used = 0; stop = w }
@@ -67,19 +52,9 @@ unfoldable pub playSome : ℕ → State → List ℕ → Play
 playSome zero s b = stopped s Ended
 playSome (suc k) s b = onHead (headOf b) (λ w. stopped s w) (λ n. further n (playSome k (acted s (entryOf (take n b))) (drop n b)))
 
-unfoldable pub play : State → List ℕ → Play
-play s b = playSome (length b) s b
-
--- ---- what a call of it promises
-
-unfoldable pub played : State → List ℕ → Played
-played s b = record { counters = play s b .state .counters; used = play s b .used; stop = play s b .stop }
-
-unfoldable pub playRows : State → List ℕ → List ℕ
-playRows s b = play s b .state .rows
-
-unfoldable pub playLines : State → List ℕ → List ℕ
-playLines s b = play s b .state .lines
+-- what a call of `play` promises
+unfoldable pub played : State → List ℕ → Play
+played s b = playSome (length b) s b
 
 -- ---- piece by piece
 
@@ -94,14 +69,14 @@ begun s = record { so = stopped s Ended; left = [] }
 
 -- all of b played at once
 abbrev pub held : State → List ℕ → Held
-held s b = record { so = play s b; left = drop (play s b .used) b }
+held s b = record { so = played s b; left = drop (played s b .used) b }
 
 -- one piece more, played behind what was left over before it
 unfoldable pub feed : Held → List ℕ → Held
 feed h piece =
     record {
-      so = further (h .so .used) (play (h .so .state) (h .left ++ piece));
-      left = drop (play (h .so .state) (h .left ++ piece) .used) (h .left ++ piece);
+      so = further (h .so .used) (played (h .so .state) (h .left ++ piece));
+      left = drop (played (h .so .state) (h .left ++ piece) .used) (h .left ++ piece);
     }
 
 unfoldable pub feedAll : Held → List (List ℕ) → Held

@@ -1,14 +1,19 @@
 // One entry of a tape: what stands at a place, and what the book is told of it.
 use crate::Stop;
-use book::counters::Counters;
+use counters::Counters;
+use kinds::Kind;
+use kinds::kind_of;
 use numbers::number4;
 use octets::run::byte;
 use octets::run::fill;
+use rows::Listing;
 ghost use mathlib.Core.Path.{_≡_};
-ghost use Prim.Native.Nat.{_≤_};
+ghost use Prim.Native.Nat.{_+_, _≤_};
 ghost use lib.ListN.{length, drop};
-ghost use Rattle.tape.specs.Entries.{bodyLength, headOf, listingOf, messageOf, entryOf};
-ghost use Rattle.tape.specs.Playing.{stateOf, acted};
+ghost use Rattle.book.specs.State.{lent};
+ghost use Rattle.tape.specs.Entries.{kindBytes, numberBytes, lengthIn, bodyLength, headOf};
+ghost use Rattle.tape.specs.Entries.{Lists, listingIn, delivery, entryOf};
+ghost use Rattle.tape.specs.Playing.{acted};
 
 // What stands at the head of a run of bytes: a whole entry of that many bytes, or none, and why.
 pub enum Head {
@@ -16,19 +21,55 @@ pub enum Head {
     Stops(Stop),
 }
 
-// How many bytes follow a kind byte: symbol 8 and close 4, or number 4 and a message; 0 where the byte is no kind.
-fn body_length(kind: u8) -> usize
-    ensures { λ n. ⌜ n ≡ bodyLength kind ⌝ }
+// How many bytes the kind, the symbol and the close of a listing, and the number of a message have.
+const KIND: usize = 1;
+
+const SYMBOL: usize = 8;
+
+const CLOSE: usize = 4;
+
+const NUMBER: usize = 4;
+
+// Where the close and the message stand in their entries; the symbol and the number stand behind the kind.
+const CLOSE_AT: usize = KIND + SYMBOL;
+
+const MESSAGE_AT: usize = KIND + NUMBER;
+
+// How many bytes are delivered of each type. A cancel is as long as a trade.
+const EVENT: usize = 6;
+
+const TRADE: usize = 45;
+
+const CORRECTION: usize = 67;
+
+const SUMMARY: usize = 34;
+
+// How many bytes a message of a type has; 0 where it is no type.
+fn message_length(kind: Kind) -> usize
+    ensures { λ n. ⌜ n ≡ lengthIn kind ⌝ }
 {
     match kind {
-        b'L' => 12,
-        b'S' => 10,
-        b'T' => 49,
-        b'X' => 49,
-        b'C' => 71,
-        b'J' => 38,
-        _ => 0,
+        Kind::Event => EVENT,
+        Kind::Trade => TRADE,
+        Kind::Cancel => TRADE,
+        Kind::Correction => CORRECTION,
+        Kind::Summary => SUMMARY,
+        Kind::Other => 0,
     }
+}
+
+// How many bytes follow a kind byte: symbol and close, or number and message; 0 where the byte is no kind.
+fn body_length(letter: u8) -> usize
+    ensures { λ n. ⌜ n ≡ bodyLength letter ⌝ }
+{
+    if letter == b'L' {
+        return SYMBOL + CLOSE;
+    }
+    let n = message_length(kind_of(letter));
+    if n == 0 {
+        return 0;
+    }
+    NUMBER + n
 }
 
 // What stands at a place.
@@ -51,34 +92,36 @@ pub(crate) fn head_at(part: &[u8], at: usize) -> Head
 
 // Lists the symbol of an entry with its close.
 fn list_entry(c: Counters, rows: &mut [u8], lines: &[u8], bytes: &[u8]) -> Counters
-    ensures said { λ r. ⌜ r ≡ acted (stateOf c (now (rows .entry)) (now (lines .entry))) (listingOf (now (bytes .entry))) .counters ⌝ }
-    ensures rows { λ r. ⌜ now (rows .exit) ≡ acted (stateOf c (now (rows .entry)) (now (lines .entry))) (listingOf (now (bytes .entry))) .rows ⌝ }
+    ensures { λ r. ⌜ lent r (now (rows .exit)) (now (lines .entry))
+        ≡ acted (lent c (now (rows .entry)) (now (lines .entry))) (Lists (listingIn (now (bytes .entry)))) ⌝ }
 {
-    let mut symbol = [0u8; 8];
-    fill(&mut symbol, bytes, 1);
-    let close = number4(bytes, 9);
-    let said = book::list(c, rows, lines, symbol, close);
+    let mut symbol = [0u8; SYMBOL];
+    fill(&mut symbol, bytes, KIND);
+    let close = number4(bytes, CLOSE_AT);
+    let l = Listing {
+        symbol: symbol,
+        close: close,
+    };
+    let said = book::list(c, rows, lines, l);
     said.counters
 }
 
 // Delivers the message of an entry as it lies, under its number.
 fn deliver_entry(c: Counters, rows: &mut [u8], lines: &mut [u8], bytes: &[u8]) -> Counters
-    requires { ⌜ 5 ≤ length (now bytes) ⌝ }
-    ensures said { λ r. ⌜ r ≡ acted (stateOf c (now (rows .entry)) (now (lines .entry))) (messageOf (now (bytes .entry))) .counters ⌝ }
-    ensures rows { λ r. ⌜ now (rows .exit) ≡ acted (stateOf c (now (rows .entry)) (now (lines .entry))) (messageOf (now (bytes .entry))) .rows ⌝ }
-    ensures lines { λ r. ⌜ now (lines .exit) ≡ acted (stateOf c (now (rows .entry)) (now (lines .entry))) (messageOf (now (bytes .entry))) .lines ⌝ }
+    requires { ⌜ kindBytes + numberBytes ≤ length (now bytes) ⌝ }
+    ensures { λ r. ⌜ lent r (now (rows .exit)) (now (lines .exit))
+        ≡ acted (lent c (now (rows .entry)) (now (lines .entry))) (delivery (now (bytes .entry))) ⌝ }
 {
-    let number = number4(bytes, 1) as u64;
-    let said = book::deliver(c, rows, lines, number, &bytes[5..]);
+    let number = number4(bytes, KIND) as u64;
+    let said = book::deliver(c, rows, lines, number, &bytes[MESSAGE_AT..]);
     said.counters
 }
 
 // Plays one entry; these are all of its bytes.
 pub(crate) fn play_entry(c: Counters, rows: &mut [u8], lines: &mut [u8], bytes: &[u8]) -> Counters
-    requires { ⌜ 5 ≤ length (now bytes) ⌝ }
-    ensures said { λ r. ⌜ r ≡ acted (stateOf c (now (rows .entry)) (now (lines .entry))) (entryOf (now (bytes .entry))) .counters ⌝ }
-    ensures rows { λ r. ⌜ now (rows .exit) ≡ acted (stateOf c (now (rows .entry)) (now (lines .entry))) (entryOf (now (bytes .entry))) .rows ⌝ }
-    ensures lines { λ r. ⌜ now (lines .exit) ≡ acted (stateOf c (now (rows .entry)) (now (lines .entry))) (entryOf (now (bytes .entry))) .lines ⌝ }
+    requires { ⌜ kindBytes + numberBytes ≤ length (now bytes) ⌝ }
+    ensures { λ r. ⌜ lent r (now (rows .exit)) (now (lines .exit))
+        ≡ acted (lent c (now (rows .entry)) (now (lines .entry))) (entryOf (now (bytes .entry))) ⌝ }
 {
     if byte(bytes, 0) == b'L' {
         return list_entry(c, rows, lines, bytes);

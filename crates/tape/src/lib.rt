@@ -1,12 +1,14 @@
-// Playing a part of a tape on a book. A tape of any length is played part by part: what a part leaves over goes before the next.
+// Playing a part of a tape on a book. A tape of any length is played part by part: what a part leaves over goes before
+// the next.
 mod entries;
 
-use book::counters::Counters;
+use counters::Counters;
 use entries::Head;
 use entries::head_at;
 use entries::play_entry;
 ghost use mathlib.Core.Path.{_≡_};
-ghost use Rattle.tape.specs.Playing.{stateOf, played, playRows, playLines};
+ghost use Rattle.book.specs.State.{lent};
+ghost use Rattle.tape.specs.Playing.{came, played};
 
 // Why the play of a part stopped.
 pub enum Stop {
@@ -27,9 +29,8 @@ pub struct Played {
 
 // Plays the whole entries at the head of a part of a tape. Whatever the book answers to one, the next is played.
 pub fn play(c: Counters, rows: &mut [u8], lines: &mut [u8], part: &[u8]) -> Played
-    ensures said { λ p. ⌜ p ≡ played (stateOf c (now (rows .entry)) (now (lines .entry))) (now (part .entry)) ⌝ }
-    ensures rows { λ p. ⌜ now (rows .exit) ≡ playRows (stateOf c (now (rows .entry)) (now (lines .entry))) (now (part .entry)) ⌝ }
-    ensures lines { λ p. ⌜ now (lines .exit) ≡ playLines (stateOf c (now (rows .entry)) (now (lines .entry))) (now (part .entry)) ⌝ }
+    ensures { λ p. ⌜ came p (now (rows .exit)) (now (lines .exit))
+        ≡ played (lent c (now (rows .entry)) (now (lines .entry))) (now (part .entry)) ⌝ }
 {
     let mut counters = c;
     let mut at: usize = 0;

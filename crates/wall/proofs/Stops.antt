@@ -1,7 +1,7 @@
 -- Where the program goes on, less than the longest entry is held.
 -- Assumes nothing.
 use Prim.Native.Nat.{ℕ, _≤_}
-use mathlib.Core.Path.{_≡_, ap}
+use mathlib.Core.Path.{_≡_, ap, _∙_}
 use mathlib.Core.Logic.{_⊎_, inl, inr}
 use mathlib.Core.List.{List}
 use native.Mathlib.Omega.{arith}
@@ -9,9 +9,9 @@ use denote.Enum.Declared.{tagOf}
 use Rattle.tape.proofs.Stop.{the-type}
 use Rattle.tape.specs.declared.Stop.{Stop}
 use Rattle.tape.specs.declared.Stop.the-variants.{NoKind}
-use Rattle.tape.specs.Playing.{State}
+use Rattle.book.specs.State.{State}
 use Rattle.feed.specs.declared.Fed.{Fed}
-use Rattle.feed.specs.Feeding.{fedOf}
+use Rattle.feed.specs.Feeding.{Feeding, cameOf, fed}
 use Rattle.feed.proofs.Pieces.{held-short}
 
 -- at one of the two other stops
@@ -22,8 +22,9 @@ goes-on w k q = go k (ap (tagOf the-type) q)
     go (inl e) f = omega (arith, e, f)
     go (inr e) f = omega (arith, e, f)
 
-pub held-fits : (f : Fed) (s : State) (n : ℕ) (piece : List ℕ) → f ≡ fedOf s n piece
+pub held-fits : (f : Fed) (rows lines left : List ℕ) (s : State) (n : ℕ) (piece : List ℕ) → cameOf f rows lines left ≡ fed s n piece
     → (tagOf the-type (f .stop) ≡ 0) ⊎ (tagOf the-type (f .stop) ≡ 2) → f .held ≤ 71
-held-fits f s n piece e k =
-    let g : fedOf s n piece .stop ≡ NoKind → ⊥ = rw e at (goes-on (f .stop) k) in
-    rw e (held-short s n piece g)
+held-fits f rows lines left s n piece e k =
+    let w : f .stop ≡ fed s n piece .play .stop = ap (λ (x : Feeding). x .play .stop) e in
+    let h : f .held ≡ fed s n piece .held = ap (λ (x : Feeding). x .held) e in
+    omega (arith, h, held-short s n piece (λ q. goes-on (f .stop) k (w ∙ q)))

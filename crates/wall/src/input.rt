@@ -1,5 +1,5 @@
 // The tape on standard input, read in pieces of any size and fed to the book.
-use book::counters::Counters;
+use counters::Counters;
 use libc::STDIN_FILENO;
 use tape::Stop;
 ghost use Prim.Native.Nat.{_≤_};

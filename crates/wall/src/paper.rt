@@ -1,7 +1,7 @@
 // The wall on paper: the columns' names, a row for each listed symbol, and the closing lines.
 use crate::input::Reading;
 use crate::input::Tape;
-use book::counters::Counters;
+use counters::Counters;
 use libc::STDERR_FILENO;
 use libc::STDOUT_FILENO;
 use numbers::lesser;
@@ -32,7 +32,8 @@ fn print_rows(c: Counters, rows: &[u8], lines: &[u8]) {
 // The row at a place, with the figures of its symbol's lines. No search is needed: the place is known.
 fn print_row(c: Counters, rows: &[u8], lines: &[u8], i: usize) {
     let kept = rows::get(rows, i);
-    let symbol = kept.symbol;
+    let listing = kept.listing;
+    let symbol = listing.symbol;
     let figures = walk::walk(lines, c.lines, symbol);
     let shown = show::shown(kept, figures);
     let mut line = [0u8; 256];

@@ -5,14 +5,14 @@ use mathlib.Core.List.{List, [], _∷_}
 use Prim.Native.Nat.{ℕ}
 use native.Mathlib.Omega.{arith}
 use lib.ListN.{length}
-use Rattle.book.specs.declared.counters.Counters.{Counters}
-use Rattle.words.specs.Words.{counterWords, countersOf}
+use Rattle.counters.specs.declared.Counters.{Counters}
+use Rattle.words.specs.Words.{counterCount, counterWords, countersOf}
 
 pub counters-again : (c : Counters) → countersOf (counterWords c) ≡ c
 unfolding countersOf counterWords
 counters-again c = refl
 
-pub words-again : (w : List ℕ) → length w ≡ 5 → counterWords (countersOf w) ≡ w
+pub words-again : (w : List ℕ) → length w ≡ counterCount → counterWords (countersOf w) ≡ w
 unfolding countersOf counterWords
 words-again [] e = absurd (omega arith)
 words-again (a ∷ []) e = absurd (omega arith)

@@ -8,7 +8,7 @@ use borrow.Fn.World.{ArgsD}
 use borrow.Fn.Kinds.{endedOf}
 use denote.Triple.Clauses.{AtExit}
 use denote.Ref.{now}
-use Rattle.book.specs.declared.counters.Counters.{Counters}
+use Rattle.counters.specs.declared.Counters.{Counters}
 use Rattle.words.specs.Words.{counterWords, countersOf, rowWords}
 use Rattle.words.proofs.counters as counters
 use Rattle.words.proofs.counters.Reads as counters-reads

@@ -6,7 +6,7 @@ use mathlib.Core.Bool.{cond}
 use lib.IntN.{ℤ, pos, negsuc}
 use lib.ListN.{getD}
 use Rattle.numbers.specs.Number.{be}
-use Rattle.book.specs.declared.counters.Counters.{Counters}
+use Rattle.counters.specs.declared.Counters.{Counters}
 use Rattle.figures.specs.declared.Price.{Price}
 use Rattle.figures.specs.declared.Price.the-variants.{Absent, Of}
 use Rattle.rows.specs.declared.Reported.{Reported}
@@ -15,7 +15,14 @@ use Rattle.show.specs.declared.Net.{Net}
 use Rattle.show.specs.declared.Net.the-variants.{NoNet, Amount}
 use Rattle.show.specs.declared.RowShown.{RowShown}
 
--- ---- counters: five words
+-- how many words the counters are, and how many a row is
+abbrev pub counterCount : ℕ
+counterCount = 5
+
+abbrev pub rowCount : ℕ
+rowCount = 15
+
+-- ---- counters
 
 -- 0 wanted number, 1 phase, 2 rows used, 3 lines used, 4 messages taken
 unfoldable pub counterWords : Counters → List ℕ
@@ -25,7 +32,7 @@ counterWords c = c .wanted ∷ c .phase ∷ c .rows ∷ c .lines ∷ c .taken �
 unfoldable pub countersOf : List ℕ → Counters
 countersOf w = record { wanted = getD w 0 0; phase = getD w 1 0; rows = getD w 2 0; lines = getD w 3 0; taken = getD w 4 0 }
 
--- ---- a row: fifteen words; a figure that may be absent is a mark, 1 where it is there, and the figure, 0 where it is not
+-- ---- a row; a figure that may be absent is a mark, 1 where it is there, and the figure, 0 where it is not
 
 abbrev pub priceMark : Price → ℕ
 priceMark Absent = 0

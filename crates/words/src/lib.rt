@@ -1,6 +1,6 @@
 // Counters and a row as words of 64 bits, as a program of another language passes them. Which word is which is said in
 // `specs/Words.antt`; the numbers here are held to it.
-use book::counters::Counters;
+use counters::Counters;
 use figures::Price;
 use numbers::number8;
 use rows::Reported;
@@ -10,6 +10,11 @@ ghost use mathlib.Core.Path.{_≡_};
 ghost use mathlib.Core.Bool.{cond};
 ghost use Rattle.words.specs.Words as W;
 
+// How many words the counters are, and how many a row is.
+pub const COUNTERS: usize = 5;
+
+pub const ROW: usize = 15;
+
 // A word as a count: both have 64 bits.
 fn count_of(x: u64) -> usize
     ensures { λ n. ⌜ n ≡ x ⌝ }
@@ -17,8 +22,8 @@ fn count_of(x: u64) -> usize
     x as usize
 }
 
-// The counters that five words are.
-pub fn counters(w: &[u64; 5]) -> Counters
+// The counters that the words are.
+pub fn counters(w: &[u64; COUNTERS]) -> Counters
     ensures { λ c. ⌜ c ≡ W.countersOf (now (w .entry)) ⌝ }
 {
     let rows = count_of(w[2]);
@@ -32,8 +37,8 @@ pub fn counters(w: &[u64; 5]) -> Counters
     }
 }
 
-// The five words of counters.
-pub fn put_counters(w: &mut [u64; 5], c: Counters)
+// The words of counters.
+pub fn put_counters(w: &mut [u64; COUNTERS], c: Counters)
     ensures { λ _. ⌜ now (w .exit) ≡ W.counterWords c ⌝ }
 {
     *w = [c.wanted, c.phase, c.rows as u64, c.lines as u64, c.taken];
@@ -109,8 +114,8 @@ fn reported_word(r: Reported) -> u64
     }
 }
 
-// The fifteen words of a row.
-pub fn put_row(w: &mut [u64; 15], r: RowShown)
+// The words of a row.
+pub fn put_row(w: &mut [u64; ROW], r: RowShown)
     ensures { λ _. ⌜ now (w .exit) ≡ W.rowWords r ⌝ }
 {
     let symbol = r.symbol;

@@ -25,8 +25,13 @@ same-length-2 c = search needs
 
 returns : tie.Need-returns
 returns c =
-    let a = c .before .before .before .before .before .before .before .before .before .before .before .before .before .before .before .before .args in
-    deliver-said (a .counters .now) (a .rows .now) (a .lines .now) (c .before .before .before .before .before .before .before .before .before .before .before .counters .ensures) (a .number) (a .message .now) (c .before .before .before .before .before .before .before .before .deliver .ensures) (c .before .put-counters .ensures) (c .told .ensures)
+    let put = c .before in
+    let called = put .before .before .before .before .before .before .before in
+    let read = called .before .before .before in
+    let s = read .before .before .before .before .before in
+    let a = s .args in
+    deliver-said (a .counters .now) (a .rows .now) (a .lines .now) _ (read .counters .ensures) (called .deliver .result) _ _ _ _
+    (put .put-counters .ensures) (c .told .ensures) _ (called .deliver .ensures)
 
 pub sorundappa-deliver-spec : {M : Type 1} → statement M
 sorundappa-deliver-spec =

@@ -22,8 +22,12 @@ same-length c = search needs
 
 returns : tie.Need-returns
 returns c =
-    let a = c .before .before .before .before .before .before .before .before .before .before .before .before .before .args in
-    list-said (a .counters .now) (a .rows .now) (a .lines .now) (c .before .before .before .before .before .before .before .before .counters .ensures) (a .symbol .now) (a .close) (c .before .before .before .before .before .before .list .ensures) (c .before .put-counters .ensures) (c .told .ensures)
+    let called = c .before .before .before .before .before .before in
+    let read = called .before .before in
+    let s = read .before .before .before .before .before in
+    let a = s .args in
+    list-said (a .counters .now) (a .rows .now) (a .lines .now) _ (read .counters .ensures) (called .list .result) _ _ _ _
+    (c .before .put-counters .ensures) (c .told .ensures) _ (called .list .ensures)
 
 pub sorundappa-list-spec : {M : Type 1} → statement M
 sorundappa-list-spec =

@@ -19,9 +19,19 @@ told-requires c κs = search needs
 
 returns : tie.Need-returns
 returns c =
-    let a = c .before .before .before .before .before .before .before .before .before .args in
-    row-said (a .counters .now) (a .rows .now) (a .lines .now) (c .before .before .before .before .before .counters .ensures) (a .symbol .now) (c .before .before .before .before .row .ensures) (c .before .put-row .ensures) (c .told .ensures)
+    let called = c .before .before .before .before in
+    let read = called .before in
+    let s = read .before .before .before .before in
+    let a = s .args in
+    row-said (a .counters .now) (a .rows .now) (a .lines .now) _ (read .counters .ensures) (a .symbol .now) _ _ _
+    (called .row .ensures) (c .before .put-row .ensures) (c .told .ensures)
 
 pub sorundappa-row-spec : {M : Type 1} → statement M
 sorundappa-row-spec =
-    tie.close (tie.spec counters-requires row-requires put-row-requires told-requires returns)
+    tie.close
+    (tie.spec
+    counters-requires
+    row-requires
+    put-row-requires
+    told-requires
+    returns)

@@ -66,9 +66,50 @@ up n k h e = omega arith
 
 returns-14 : tie.Need-returns-14
 returns-14 c =
-    let r = c .match .rest in
     let w = c .before .args .which in
-    sym (size-none w (up w 12 (up w 11 (up w 10 (up w 9 (up w 8 (up w 7 (up w 6 (up w 5 (up w 4 (up w 3 (up w 2 (up w 1 (up w 0 (omega arith) (r .0 .0 .0 .0 .0 .0 .0 .0 .0 .0 .0 .0 .1)) (r .0 .0 .0 .0 .0 .0 .0 .0 .0 .0 .0 .1)) (r .0 .0 .0 .0 .0 .0 .0 .0 .0 .0 .1)) (r .0 .0 .0 .0 .0 .0 .0 .0 .0 .1)) (r .0 .0 .0 .0 .0 .0 .0 .0 .1)) (r .0 .0 .0 .0 .0 .0 .0 .1)) (r .0 .0 .0 .0 .0 .0 .1)) (r .0 .0 .0 .0 .0 .1)) (r .0 .0 .0 .0 .1)) (r .0 .0 .0 .1)) (r .0 .0 .1)) (r .0 .1)) (r .1)))
+    let r12 = c .match .rest in
+    let r11 = r12 .0 in
+    let r10 = r11 .0 in
+    let r9 = r10 .0 in
+    let r8 = r9 .0 in
+    let r7 = r8 .0 in
+    let r6 = r7 .0 in
+    let r5 = r6 .0 in
+    let r4 = r5 .0 in
+    let r3 = r4 .0 in
+    let r2 = r3 .0 in
+    let r1 = r2 .0 in
+    let r0 = r1 .0 in
+    let p0 = up w 0 (omega arith) (r0 .1) in
+    let p1 = up w 1 p0 (r1 .1) in
+    let p2 = up w 2 p1 (r2 .1) in
+    let p3 = up w 3 p2 (r3 .1) in
+    let p4 = up w 4 p3 (r4 .1) in
+    let p5 = up w 5 p4 (r5 .1) in
+    let p6 = up w 6 p5 (r6 .1) in
+    let p7 = up w 7 p6 (r7 .1) in
+    let p8 = up w 8 p7 (r8 .1) in
+    let p9 = up w 9 p8 (r9 .1) in
+    let p10 = up w 10 p9 (r10 .1) in
+    let p11 = up w 11 p10 (r11 .1) in
+    let p12 = up w 12 p11 (r12 .1) in
+    sym (size-none w p12)
 
 pub sorundappa-size-spec : {M : Type 1} → statement M
-sorundappa-size-spec = tie.close (tie.spec returns returns-2 returns-3 returns-4 returns-5 returns-6 returns-7 returns-8 returns-9 returns-10 returns-11 returns-12 returns-13 returns-14)
+sorundappa-size-spec =
+    tie.close
+    (tie.spec
+    returns
+    returns-2
+    returns-3
+    returns-4
+    returns-5
+    returns-6
+    returns-7
+    returns-8
+    returns-9
+    returns-10
+    returns-11
+    returns-12
+    returns-13
+    returns-14)

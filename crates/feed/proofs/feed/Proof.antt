@@ -1,10 +1,11 @@
 -- `feed::feed` meets its contract.
 -- Assumes nothing.
-use mathlib.Core.Path.{sym, ap, _∙_}
+use mathlib.Core.Path.{sym}
 use native.Mathlib.Omega.{arith}
 use lib.Seq.{length-take-le}
-use Rattle.tape.specs.Playing.{stateOf, playRows, playLines}
-use Rattle.feed.proofs.Laws.{brought, used-fits, moved, said}
+use Prim.Native.Nat.{_≤_}
+use Rattle.book.specs.State.{State, lent}
+use Rattle.feed.proofs.Laws.{used-fits, fed-is}
 use borrow.Author.Needs.{needs}
 use Rattle.feed.proofs.feed.Statement.{statement}
 use Rattle.feed.proofs.feed.Tie as tie
@@ -17,39 +18,42 @@ slice-reshare-prefix-play c = search needs
 
 slice-aggregate-play : tie.Need-slice-aggregate-play
 slice-aggregate-play c =
-    let at-lesser = c .before .before .before in
-    let start = at-lesser .before .before .before .before in
-    sym (length-take-le (at-lesser .lesser .result) (start .args .piece .now) (omega arith))
+    let asked = c .before .before .before in
+    let s = asked .before .before .before .before in
+    sym (length-take-le (asked .lesser .result) (s .args .piece .now) (omega arith))
 
 play-requires : tie.Need-play-requires
 play-requires c κs = search needs
 
+abbrev state : tie.Start → State
+state s = lent (s .args .c) (s .args .rows .now) (s .args .lines .now)
+
+-- what was found before the play, and where the call began
+abbrev chosen : tie.After-play → tie.After-lesser
+chosen c = c .before .before .before .before
+
+abbrev start : tie.After-play → tie.Start
+start c = chosen c .before .before .before .before
+
+-- no more is used than was played
+within : (c : tie.After-play) → c .play .result .used ≤ chosen c .lesser .result
+within c =
+    let s = start c in
+    let l = chosen c .lesser in
+    used-fits (state s) (s .args .n) (s .args .piece .now) (l .result) (l .ensures) (c .play .result) _ _ (c .play .ensures)
+
+-- the play, from where its left-over bytes are moved
+abbrev told : tie.After-to-front-arg → tie.After-play
+told c = c .before .before .before .before .before .before
+
 sub-to-front : tie.Need-sub-to-front
-sub-to-front c =
-    let at-lines = c .before .before .before in
-    let at-play = at-lines .before .before .before in
-    let at-lesser = at-play .before .before .before .before in
-    let start = at-lesser .before .before .before .before in
-    let a = start .args in
-    let s = stateOf (a .c) (a .rows .now) (a .lines .now) in
-    let l = at-lesser .lesser in
-    let p = at-play .play in
-    used-fits s (a .n) (a .piece .now) (l .result) (l .ensures) (p .result) (p .ensures .0)
+sub-to-front c = within (told c)
 
 to-front-requires : tie.Need-to-front-requires
 to-front-requires c κs = search needs
 
 sub-t11 : tie.Need-sub-t11
-sub-t11 c =
-    let at-slice-known5 = c .before .before .before .before .before in
-    let at-play = at-slice-known5 .before .before .before .before in
-    let at-lesser = at-play .before .before .before .before in
-    let start = at-lesser .before .before .before .before in
-    let a = start .args in
-    let s = stateOf (a .c) (a .rows .now) (a .lines .now) in
-    let l = at-lesser .lesser in
-    let p = at-play .play in
-    used-fits s (a .n) (a .piece .now) (l .result) (l .ensures) (p .result) (p .ensures .0)
+sub-t11 c = within (told (c .before .before .before))
 
 same-length : tie.Need-same-length
 same-length c = search needs
@@ -62,24 +66,12 @@ same-length-3 c = search needs
 
 returns : tie.Need-returns
 returns c =
-    let at-slice-known5 = c .before .before .before .before .before in
-    let at-play = at-slice-known5 .before .before .before .before in
-    let at-lesser = at-play .before .before .before .before in
-    let start = at-lesser .before .before .before .before in
-    let a = start .args in
-    let s = stateOf (a .c) (a .rows .now) (a .lines .now) in
-    let l = at-lesser .lesser in
-    let p = at-play .play in
-    let b = brought s (a .n) (a .piece .now) (l .result) (l .ensures) (p .result) (p .ensures .0) in (
-      said s (a .n) (a .piece .now) (l .result) (l .ensures) (p .result) (p .ensures .0),
-      (
-        p .ensures .1 .0 ∙ ap (playRows s) b,
-        (
-          p .ensures .1 .1 ∙ ap (playLines s) b,
-          moved s (a .n) (a .piece .now) (l .result) (l .ensures) (p .result) (p .ensures .0) _ (c .before .before .to-front .ensures),
-        ),
-      ),
-    )
+    let fronted = c .before .before in
+    let gone = told (fronted .before) in
+    let s = start gone in
+    let l = chosen gone .lesser in
+    let p = gone .play in
+    fed-is (state s) (s .args .n) (s .args .piece .now) (l .result) (l .ensures) (p .result) _ _ (p .ensures) _ (fronted .to-front .ensures)
 
 pub feed-spec : {M : Type 1} → statement M
 feed-spec =

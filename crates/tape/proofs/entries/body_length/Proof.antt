@@ -1,39 +1,50 @@
 -- `tape::entries::body_length` meets its contract.
 -- Assumes nothing.
-use borrow.Author.Tests.{ne-eqb}
+use borrow.Author.Tests.{eq-eqb}
 use Rattle.tape.specs.Entries.{bodyLength}
+use Rattle.tape.proofs.Heads.{length-top, none-is, some-is}
+use borrow.Author.Needs.{needs}
 use Rattle.tape.proofs.entries.body_length.Statement.{statement}
 use Rattle.tape.proofs.entries.body_length.Tie as tie
 
+add-result : tie.Need-add-result
+add-result c = search needs
+
 returns : tie.Need-returns
 unfolding bodyLength
-returns c = rw (c .match .keys1)
+returns c = simp (eq-eqb _ _ (c .if1 .taken))
+
+kind-of-requires : tie.Need-kind-of-requires
+kind-of-requires c κs = search needs
+
+message-length-requires : tie.Need-message-length-requires
+message-length-requires c κs = search needs
 
 returns-2 : tie.Need-returns-2
-unfolding bodyLength
-returns-2 c = rw (c .match .keys2)
+returns-2 c =
+    let a = c .before .before .before .before .args in
+    none-is (a .letter) (c .before .before .before .if1 .left) _ (c .before .before .kind-of .ensures) _
+    (c .before .message-length .ensures) (c .if2 .taken)
+
+add-result-2 : tie.Need-add-result-2
+add-result-2 c =
+    let h = length-top (c .before .before .kind-of .result) _ (c .before .message-length .ensures) in
+    search needs
 
 returns-3 : tie.Need-returns-3
-unfolding bodyLength
-returns-3 c = rw (c .match .keys3)
-
-returns-4 : tie.Need-returns-4
-unfolding bodyLength
-returns-4 c = rw (c .match .keys4)
-
-returns-5 : tie.Need-returns-5
-unfolding bodyLength
-returns-5 c = rw (c .match .keys5)
-
-returns-6 : tie.Need-returns-6
-unfolding bodyLength
-returns-6 c = rw (c .match .keys6)
-
-returns-7 : tie.Need-returns-7
-unfolding bodyLength
-returns-7 c =
-    let r = c .match .rest in
-    simp (ne-eqb _ _ (r .0 .0 .0 .0 .0 .1), ne-eqb _ _ (r .0 .0 .0 .0 .1), ne-eqb _ _ (r .0 .0 .0 .1), ne-eqb _ _ (r .0 .0 .1), ne-eqb _ _ (r .0 .1), ne-eqb _ _ (r .1))
+returns-3 c =
+    let a = c .before .before .before .before .args in
+    some-is (a .letter) (c .before .before .before .if1 .left) _ (c .before .before .kind-of .ensures) _
+    (c .before .message-length .ensures) (c .if2 .left)
 
 pub body-length-spec : {M : Type 1} → statement M
-body-length-spec = tie.close (tie.spec returns returns-2 returns-3 returns-4 returns-5 returns-6 returns-7)
+body-length-spec =
+    tie.close
+    (tie.spec
+    add-result
+    returns
+    kind-of-requires
+    message-length-requires
+    returns-2
+    add-result-2
+    returns-3)

@@ -1,9 +1,13 @@
 -- `tape::entries::deliver_entry` meets its contract.
 -- Assumes nothing.
+use Rattle.book.specs.State.{State, lent}
 use Rattle.tape.proofs.Plays.{message-acted, rest-all}
 use borrow.Author.Needs.{needs}
 use Rattle.tape.proofs.entries.deliver_entry.Statement.{statement}
 use Rattle.tape.proofs.entries.deliver_entry.Tie as tie
+
+abbrev state : tie.Start → State
+state s = lent (s .args .c) (s .args .rows .now) (s .args .lines .now)
 
 number4-requires : tie.Need-number4-requires
 number4-requires c κs = search needs
@@ -31,9 +35,11 @@ same-length-2 c = search needs
 
 returns : tie.Need-returns
 returns c =
-    let a = c .before .before .before .before .before .before .before .before .before .before .before .before .before .args in
-    let d = c .before .before .before .before .before .deliver .ensures in
-    message-acted (a .c) (a .rows .now) (a .lines .now) (a .bytes .now) _ _ (c .before .before .before .before .before .before .before .before .before .number4 .ensures) (rest-all (a .bytes .now) 5) _ _ _ (d .0) (d .1 .0) (d .1 .1)
+    let called = c .before .before .before .before .before in
+    let got = called .before .before .before .before in
+    let s = got .before .before .before .before in
+    let b = s .args .bytes .now in
+    message-acted (state s) b _ _ (got .number4 .ensures) (rest-all b 5) _ (called .deliver .ensures)
 
 pub deliver-entry-spec : {M : Type 1} → statement M
 deliver-entry-spec =

@@ -1,9 +1,13 @@
 -- `tape::entries::play_entry` meets its contract.
 -- Assumes nothing.
+use Rattle.book.specs.State.{State, lent}
 use Rattle.tape.proofs.Plays.{listing-played, message-played}
 use borrow.Author.Needs.{needs}
 use Rattle.tape.proofs.entries.play_entry.Statement.{statement}
 use Rattle.tape.proofs.entries.play_entry.Tie as tie
+
+abbrev state : tie.Start → State
+state s = lent (s .args .c) (s .args .rows .now) (s .args .lines .now)
 
 byte-requires : tie.Need-byte-requires
 byte-requires c κs = search needs
@@ -19,8 +23,11 @@ same-length-2 c = search needs
 
 returns : tie.Need-returns
 returns c =
-    let a = c .before .before .before .before .before .before .before .before .before .before .args in
-    listing-played (a .c) (a .rows .now) (a .lines .now) (a .bytes .now) _ (c .before .before .before .before .before .before .byte .ensures) (c .before .before .before .before .before .if1 .taken) _ _ (c .before .before .list-entry .ensures)
+    let called = c .before .before in
+    let asked = called .before .before .before in
+    let read = asked .before in
+    let s = read .before .before .before .before in
+    listing-played (state s) (s .args .bytes .now) _ (read .byte .ensures) _ (asked .if1 .taken) (called .list-entry .ensures)
 
 deliver-entry-requires : tie.Need-deliver-entry-requires
 deliver-entry-requires c κs = search needs
@@ -33,8 +40,11 @@ same-length-4 c = search needs
 
 returns-2 : tie.Need-returns-2
 returns-2 c =
-    let a = c .before .before .before .before .before .before .before .before .before .before .before .before .args in
-    message-played (a .c) (a .rows .now) (a .lines .now) (a .bytes .now) _ (c .before .before .before .before .before .before .before .before .byte .ensures) (c .before .before .before .before .before .before .before .if1 .left) _ _ _ (c .before .before .before .before .deliver-entry .ensures)
+    let called = c .before .before .before .before in
+    let asked = called .before .before .before in
+    let read = asked .before in
+    let s = read .before .before .before .before in
+    message-played (state s) (s .args .bytes .now) _ (read .byte .ensures) _ (asked .if1 .left) (called .deliver-entry .ensures)
 
 pub play-entry-spec : {M : Type 1} → statement M
 play-entry-spec =

@@ -1,6 +1,6 @@
 -- `wall::input::play_some` meets its contract.
 -- Assumes nothing.
-use Rattle.tape.specs.Playing.{stateOf}
+use Rattle.book.specs.State.{lent}
 use Rattle.wall.proofs.Stops.{held-fits}
 use borrow.Author.Needs.{needs}
 use Rattle.wall.proofs.input.play_some.Statement.{statement}
@@ -41,13 +41,11 @@ same-length-6 c = search needs
 
 returns-2 : tie.Need-returns-2
 returns-2 c =
-    let at-slice-known5 = c .before .before .before .before .before in
-    let at-feed = at-slice-known5 .before .before .before .before in
-    let at-slice-known3 = at-feed .before .before .before .before in
-    let start = at-slice-known3 .before .before .before in
-    let a = start .args in
-    let f = at-feed .feed in (
-      held-fits (f .result) (stateOf (a .c) (a .rows .now) (a .lines .now)) (a .n) (a .piece .now) (f .ensures .0) (c .match .keys2),
+    let called = c .before .before .before .before .before .before .before .before .before in
+    let s = called .before .before .before .before .before .before .before in
+    let a = s .args in
+    let f = called .feed in (
+      held-fits (f .result) _ _ _ (lent (a .c) (a .rows .now) (a .lines .now)) (a .n) (a .piece .now) (f .ensures) (c .match .keys2),
       search needs,
     )
 

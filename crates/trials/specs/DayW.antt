@@ -60,10 +60,13 @@ freshRooms = stateOf freshCounters (replicate 65 35) (replicate 483 35)
 
 unfoldable pub playW : Play
 unfolding tapeW Run.tab Run.part Number.be Number.digits Text.text Conditions.levelAt Conditions.marksOf Conditions.conditionMarks
-    Reading.lengthBy saleAt Fields.fieldsS Fields.fieldsTrade Fields.fieldsJ Fields.fieldsOf Lawful.saleOk Lawful.saleNone Lawful.pricesNone Lawful.tradeOk Lawful.lawfulS Lawful.lawfulT Lawful.lawfulC Lawful.lawfulJ Lawful.lawfulOf Reading.judgedOf Reading.readOf
+    Reading.lengthBy saleAt Fields.fieldsS Fields.fieldsTrade Fields.fieldsJ Fields.fieldsOf Lawful.saleOk Lawful.saleNone
+    Lawful.pricesNone Lawful.tradeOk Lawful.lawfulS Lawful.lawfulT Lawful.lawfulC Lawful.lawfulJ Lawful.lawfulOf Reading.judgedOf
+    Reading.readOf
     Search.first Lines.lineFrom Lines.lineBytes Lines.usedLines Lines.lineIn Lines.withLine Lines.withDead
     Rows.summaryAt Rows.reportedAt Rows.rowFrom Rows.newRow Rows.reportBytes Rows.summaryBytes Rows.usedRows Rows.rowIn Rows.inRow
     Messages.matches Table.numberTable Table.contentTable Table.listTable Taking.linesBy Taking.rowsBy
-    Counting.sound Counting.takenBy Calls.listAnswer Calls.listSaid Calls.listRows Calls.deliverAnswer Calls.deliverSaid Calls.deliverRows Calls.deliverLines
+    Counting.sound Counting.takenBy Calls.listAnswer Calls.listSaid Calls.listRows Calls.deliverAnswer Calls.deliverSaid
+    Calls.deliverRows Calls.deliverLines
     Entries.bodyLength Entries.headOf Entries.entryOf Playing.acted Playing.playSome Playing.play
 playW = play freshRooms tapeW

@@ -16,7 +16,8 @@ use Rattle.book.specs.Calls.{rowShown}
 use Rattle.tape.specs.Day.{abcd, tapeW, playW}
 use Rattle.tape.specs.declared.Stop.the-variants.{Ended}
 
-pub w-played : (playW .state .counters .taken ≡ 6) × (playW .state .counters .wanted ≡ 7) × (playW .used ≡ length tapeW) × (length tapeW ≡ 296) × (playW .stop ≡ Ended)
+pub w-played : (playW .state .counters .taken ≡ 6) × (playW .state .counters .wanted ≡ 7) × (playW .used ≡ length tapeW)
+    × (length tapeW ≡ 296) × (playW .stop ≡ Ended)
 unfolding playW
 w-played = (refl, refl, refl, refl, refl)
 
