@@ -1,5 +1,5 @@
 // A message read, a record written, and both told.
-use crate::fields;
+use crate::told;
 use records::Record;
 
 // What a lent space holds before a record is written.
@@ -20,7 +20,7 @@ pub fn read(message: &[u8]) -> Record {
     telling::words(b"\nread ");
     telling::number(answers::number(a) as u64);
     let found = said.found;
-    fields::tell(found);
+    told::tell(found);
     found
 }
 

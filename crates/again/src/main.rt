@@ -1,8 +1,8 @@
 // Each sound message read and written back, and what is refused.
 mod back;
-mod fields;
 mod refused;
 mod sound;
+mod told;
 
 fn main() {
     event();

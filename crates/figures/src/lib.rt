@@ -3,7 +3,7 @@ ghost use mathlib.Core.Path.{_≡_};
 ghost use mathlib.Core.Bool.{cond};
 ghost use Rattle.figures.specs.Figures.{raise, lower, later};
 
-// A price, or none where no trade may set it.
+// A price, or none if no trade has set it.
 pub enum Price {
     Absent,
     Of(u32),

@@ -33,5 +33,6 @@ pub net-fits : (p q : ℕ) → p < 2 ^ 32 → q < 2 ^ 32 → SFits w64 (toZ w64 
 net-fits p q hp hq = subst⁻¹ (λ (z : ℤ). SFits w64 z) (net-is p q hp hq) (record { sfits = below p q hp hq })
 
 -- at both ends and at zero
-pub net-ends : (netOf (Of 1) 2000000000 ≡ Amount (negsuc 1999999998)) × (netOf (Of 2000000000) 1 ≡ Amount (pos 1999999999)) × (netOf (Of 2000000000) 2000000000 ≡ Amount (pos 0))
+pub net-ends : (netOf (Of 1) 2000000000 ≡ Amount (negsuc 1999999998)) × (netOf (Of 2000000000) 1 ≡ Amount (pos 1999999999))
+    × (netOf (Of 2000000000) 2000000000 ≡ Amount (pos 0))
 net-ends = (refl, refl, refl)

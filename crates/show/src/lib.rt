@@ -71,6 +71,7 @@ fn agrees_with(s: Summary, high: Price, low: Price) -> bool
     }
 }
 
+// The row as a reader sees it: what the row keeps, the figures, and what follows from both.
 pub fn shown(r: Row, f: Figures) -> RowShown
     ensures { λ s. ⌜ s ≡ Showing.shownOf r f ⌝ }
 {

@@ -24,7 +24,9 @@ cast-t8 : tie.Need-cast-t8
 cast-t8 c = search needs
 
 sub-t9 : tie.Need-sub-t9
-sub-t9 c = net-fits (c .before .before .last .given .0 .0) (c .before .before .before .before .args .close) (omega (arith, c .before .known-told .given)) (omega (arith, c .before .before .before .before .fits .close))
+sub-t9 c =
+    net-fits (c .before .before .last .given .0 .0) (c .before .before .before .before .args .close)
+    (omega (arith, c .before .known-told .given)) (omega (arith, c .before .before .before .before .fits .close))
 
 returns : tie.Need-returns
 returns c = search needs
