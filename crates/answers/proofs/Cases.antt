@@ -122,7 +122,8 @@ pub record IsLowest (cases : List Case) (n : ℕ) : Type 0 where
 above : (n : ℕ) (cs : List Case) → RisingFrom n cs → (c : Case) → List·Memᴰ c cs → n < c .number
 above n [] h c m = absurd (List·Memᴰ·not-nil m)
 above n (d ∷ cs) h c m =
-    ⊎-elim (λ (e : c ≡ d). rw e (h .0)) (λ (t : List·Memᴰ c cs). omega (arith, above (d .number) cs (h .1) c t, h .0)) (List·Memᴰ·cases-cons m)
+    ⊎-elim (λ (e : c ≡ d). rw e (h .0)) (λ (t : List·Memᴰ c cs). omega (arith, above (d .number) cs (h .1) c t, h .0))
+    (List·Memᴰ·cases-cons m)
 
 rising-numbered : (n : ℕ) (cs : List Case) → RisingFrom n cs → Numbered cs
 rising-numbered n [] h = tt
@@ -151,7 +152,8 @@ module _ (d : Case) (cs : List Case) (n : ℕ) where
     where
       clash : (c : Case) → c .number < n → (c ≡ d) ⊎ List·Memᴰ c cs → ⊥
       clash c l m =
-          ⊎-elim (λ (q : c ≡ d). omega (arith, ap (λ (x : Case). x .number) q)) (λ (t : List·Memᴰ c cs). omega (arith, above (d .number) cs r c t)) m
+          ⊎-elim (λ (q : c ≡ d). omega (arith, ap (λ (x : Case). x .number) q))
+          (λ (t : List·Memᴰ c cs). omega (arith, above (d .number) cs r c t)) m
 
 lowest-of : (k : ℕ) (cs : List Case) → RisingFrom k cs → (n : ℕ) → (n ≡ 0 → ⊥) → given cs .number ≡ n → IsLowest cs n
 lowest-of k [] r n z e = absurd (z (sym e))
@@ -195,10 +197,12 @@ pub given-among : (cs : List Case) → List·Memᴰ (given cs .number) (0 ∷ nu
 given-among [] = List·Memᴰ·head refl
 given-among (c ∷ cs) = go (c .applies) (given-among cs)
   where
-    go : (t : Bool) → List·Memᴰ (given cs .number) (0 ∷ numbersOf cs) → List·Memᴰ (cond t c (given cs) .number) (0 ∷ c .number ∷ numbersOf cs)
+    go : (t : Bool) → List·Memᴰ (given cs .number) (0 ∷ numbersOf cs)
+        → List·Memᴰ (cond t c (given cs) .number) (0 ∷ c .number ∷ numbersOf cs)
     go true m = List·Memᴰ·tail (List·Memᴰ·head refl)
     go false m =
-        ⊎-elim (λ (e : given cs .number ≡ 0). List·Memᴰ·head e) (λ (t : List·Memᴰ (given cs .number) (numbersOf cs)). List·Memᴰ·tail (List·Memᴰ·tail t))
+        ⊎-elim (λ (e : given cs .number ≡ 0). List·Memᴰ·head e)
+        (λ (t : List·Memᴰ (given cs .number) (numbersOf cs)). List·Memᴰ·tail (List·Memᴰ·tail t))
         (List·Memᴰ·cases-cons m)
 
 -- each case uses up the number, or none does
@@ -211,6 +215,7 @@ pub given-uses : (u : Bool) (cs : List Case) → AllUse u cs → (given cs .numb
 given-uses u [] h z = absurd (z refl)
 given-uses u (c ∷ cs) h z = go (c .applies) z (given-uses u cs (h .1))
   where
-    go : (t : Bool) → (cond t c (given cs) .number ≡ 0 → ⊥) → ((given cs .number ≡ 0 → ⊥) → given cs .uses ≡ u) → cond t c (given cs) .uses ≡ u
+    go : (t : Bool) → (cond t c (given cs) .number ≡ 0 → ⊥) → ((given cs .number ≡ 0 → ⊥) → given cs .uses ≡ u)
+        → cond t c (given cs) .uses ≡ u
     go true z rest = h .0
     go false z rest = rest z

@@ -23,7 +23,8 @@ use Rattle.table.specs.Table.{numberTable, contentTable}
 use Rattle.table.proofs.Tables.{Wanted, number-content, number-refused, number-taken}
 use Rattle.show.specs.Showing.{nothingShown}
 use Rattle.book.specs.State.{State, Arrival, wantedIn, sheetOf, basisOf, soundIn, UnsoundIn}
-use Rattle.book.specs.Calls.{listTable, listCases, listAnswer, listed, numberCases, messageCases, messageGiven, spent, after, delivered, rowTable, rowCases, rowAnswer, shown}
+use Rattle.book.specs.Calls.{listTable, listCases, listAnswer, listed, numberCases, messageCases, messageGiven, spent, after}
+use Rattle.book.specs.Calls.{delivered, rowTable, rowCases, rowAnswer, shown}
 
 -- ---- one of a list
 
@@ -123,7 +124,8 @@ module _ (s : State) where
     after-refused : (g : Case) → (g .number ≡ 0 → ⊥) → after s record-in g ≡ cond (g .uses) (spent s) s
     after-refused g z = rw (ne-eqb (g .number) 0 z)
 
-    used-is : Wanted (soundIn s) (wantedIn s) (a .number) → (messageGiven s a .number ≡ 0 → ⊥) → after s record-in (messageGiven s a) ≡ spent s
+    used-is : Wanted (soundIn s) (wantedIn s) (a .number) → (messageGiven s a .number ≡ 0 → ⊥)
+        → after s record-in (messageGiven s a) ≡ spent s
     used-is w z =
         let e = answer-content w in
         let f : given cases .number ≡ 0 → ⊥ = λ q. z (ap (λ (g : Case). g .number) e ∙ q) in
@@ -141,7 +143,8 @@ module _ (s : State) where
         ∙ ap (λ (u : Bool). cond u (spent s) s) (number-keeps f)
 
   -- what is left of a room that a refusal keeps, whether or not it uses up the number
-  kept-room : (room : State → List ℕ) → room (spent s) ≡ room s → (r : Record) (g : Case) → (g .number ≡ 0 → ⊥) → room (after s r g) ≡ room s
+  kept-room : (room : State → List ℕ) → room (spent s) ≡ room s → (r : Record) (g : Case) → (g .number ≡ 0 → ⊥)
+      → room (after s r g) ≡ room s
   kept-room room e r g z = rw (ne-eqb (g .number) 0 z) (go (g .uses))
     where
       go : (u : Bool) → room (cond u (spent s) s) ≡ room s
@@ -153,9 +156,17 @@ module _ (s : State) where
   refused-keeps =
       record {
         list = λ l z. rw (ne-eqb (listAnswer s l) 0 z);
-        deliver = λ a z. (kept-room (λ t. t .rows) refl (readOf (a .message) .found) (messageGiven s a) z, kept-room (λ t. t .lines) refl (readOf (a .message) .found) (messageGiven s a) z);
+        deliver =
+            λ a z. (
+              kept-room (λ t. t .rows) refl (readOf (a .message) .found) (messageGiven s a) z,
+              kept-room (λ t. t .lines) refl (readOf (a .message) .found) (messageGiven s a) z,
+            );
         used = λ a h w f z. used-is a (wanted (a .number) h w f) z;
-        unused = λ a h. (refused-unwanted a (λ w. h (w .sound) (w .wanted) (w .greatest)), unused-is a (λ w. h (w .sound) (w .wanted) (w .greatest)));
+        unused =
+            λ a h. (
+              refused-unwanted a (λ w. h (w .sound) (w .wanted) (w .greatest)),
+              unused-is a (λ w. h (w .sound) (w .wanted) (w .greatest)),
+            );
         row = λ symbol z. rw (ne-eqb (rowAnswer s symbol) 0 (λ e. z (row-told symbol ∙ e)));
       }
     where
@@ -183,7 +194,8 @@ module _ (s : State) where
     pub deliver : (a : Arrival) → (delivered s a .answer ≡ 17) ↔ UnsoundIn s
     pub row : (symbol : List ℕ) → (numberOf (shown s symbol .answer) ≡ 17) ↔ UnsoundIn s
 
-  then-unsound : (cases : List Case) → each (λ k. not (eqb k 17)) (numbersOf cases) ≡ true → (given (inBook (soundIn s) cases) .number ≡ 17) ↔ UnsoundIn s
+  then-unsound : (cases : List Case) → each (λ k. not (eqb k 17)) (numbersOf cases) ≡ true
+      → (given (inBook (soundIn s) cases) .number ≡ 17) ↔ UnsoundIn s
   then-unsound cases h =
       let q = seventeen (soundIn s) cases (not-17 cases h) in
       let u = sound-exactly (s .counters) (length (s .rows)) (length (s .lines)) in

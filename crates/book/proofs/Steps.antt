@@ -39,7 +39,8 @@ use Rattle.show.specs.Showing.{shownOf, nothingShown}
 use Rattle.book.specs.declared.Located.{Located}
 use Rattle.book.specs.declared.Shown.{Shown}
 use Rattle.book.specs.State.{State, lent, Outcome, Arrival, arrives, wantedIn, sheetOf, linesIn, basisOf, soundIn}
-use Rattle.book.specs.Calls.{closeTop, listTable, listCases, listAnswer, withListing, listed, numberCases, messageGiven, rowNamed, lineNamed, taking, delivered, rowCases, rowAnswer, rowFound, located, shown}
+use Rattle.book.specs.Calls.{closeTop, listTable, listCases, listAnswer, withListing, listed, numberCases, messageGiven, rowNamed}
+use Rattle.book.specs.Calls.{lineNamed, taking, delivered, rowCases, rowAnswer, rowFound, located, shown}
 use Rattle.book.proofs.Demand1.{list-told, message-told, number-told, row-told, answer-content, answer-number, refused-keeps}
 
 -- ---- a record is its parts
@@ -102,7 +103,14 @@ module _ (s : State) (l : Listing) where
         unfolding listTable
         list-new e b g =
             let f : isListed (l .symbol) (sheetOf s) ≡ false = ap isFound e in
-            told (cond b 16 0) (rw (h, broken-is (text (l .symbol)) (l .close) closeTop true k, eq-eqb (wantedIn s) 1 w, f, rows-full (s .rows) (s .counters .rows), g))
+            told (cond b 16 0) (rw (
+              h,
+              broken-is (text (l .symbol)) (l .close) closeTop true k,
+              eq-eqb (wantedIn s) 1 w,
+              f,
+              rows-full (s .rows) (s .counters .rows),
+              g,
+            ))
 
   -- ---- a listing done
 
@@ -114,7 +122,8 @@ module _ (s : State) (l : Listing) where
     unfolding listed
     list-refused z = outcome-is (listed s l) (numberOf a) s answer-told (sym (refused-keeps s .list l (λ q. z (answer-told ∙ q))))
 
-    pub list-done : numberOf a ≡ 0 → (c : Counters) (rows : List ℕ) → c ≡ oneRowMore (s .counters) → rows ≡ withRow (s .rows) (s .counters .rows) l
+    pub list-done : numberOf a ≡ 0 → (c : Counters) (rows : List ℕ) → c ≡ oneRowMore (s .counters)
+        → rows ≡ withRow (s .rows) (s .counters .rows) l
         → record { answer = 0; state = lent c rows (s .lines) } ≡ listed s l
     unfolding listed
     list-done z c rows f g =
@@ -132,7 +141,8 @@ event-idle Correction m r i j e = absurd (true≢false (sym e))
 event-idle Summary m r i j e = absurd (true≢false (sym e))
 event-idle Other m r i j e = absurd (true≢false (sym e))
 
-unnamed-idle : (k : Kind) (m : List ℕ) (used n : ℕ) (r : Record) (i j : ℕ) → namesOld k ≡ false → linesBy k m used n r i ≡ linesBy k m used n r j
+unnamed-idle : (k : Kind) (m : List ℕ) (used n : ℕ) (r : Record) (i j : ℕ) → namesOld k ≡ false
+    → linesBy k m used n r i ≡ linesBy k m used n r j
 unfolding linesBy
 unnamed-idle Event m used n r i j e = refl
 unnamed-idle Trade m used n r i j e = refl
@@ -202,7 +212,8 @@ module _ (s : State) (m : List ℕ) (w : Wanted (soundIn s) (wantedIn s) (wanted
         at : namesOld (kindIn r) ≡ true → it .line ≡ lineNamed s r
         at e = sym (ap indexOf (judged-line (basisOf s) (readOf m) z-it e))
 
-        go : (t : Bool) → namesOld (kindIn r) ≡ t → linesBy (kindIn r) (s .lines) (s .counters .lines) (wantedIn s) r (it .line) ≡ taking s r .lines
+        go : (t : Bool) → namesOld (kindIn r) ≡ t
+            → linesBy (kindIn r) (s .lines) (s .counters .lines) (wantedIn s) r (it .line) ≡ taking s r .lines
         go true t = ap (linesBy (kindIn r) (s .lines) (s .counters .lines) (wantedIn s) r) (at t)
         go false t = unnamed-idle (kindIn r) (s .lines) (s .counters .lines) (wantedIn s) r (it .line) (lineNamed s r) t
 
@@ -213,7 +224,9 @@ module _ (s : State) (m : List ℕ) (w : Wanted (soundIn s) (wantedIn s) (wanted
         → record { answer = 0; state = lent c rows lines } ≡ delivered s here
     unfolding delivered
     taken-here c rows lines ec er el =
-        let fc = ec ∙ ap (λ (x : Kind). takenBy x (q .found .event) (s .counters)) kind-is ∙ ap (λ (x : Reading). takenBy (kindIn r) (x .found .event) (s .counters)) f in
+        let fc
+        = ec ∙ ap (λ (x : Kind). takenBy x (q .found .event) (s .counters)) kind-is
+        ∙ ap (λ (x : Reading). takenBy (kindIn r) (x .found .event) (s .counters)) f in
         let fr =
         er
         ∙ ap (λ (x : Kind). rowsBy x (s .rows) (q .found) (v .row)) kind-is
@@ -249,7 +262,8 @@ module _ (s : State) (n : ℕ) (m : List ℕ) (a : Answer) (e : a ≡ answerOf (
   early-left z =
       let u : Wanted (soundIn s) (wantedIn s) n → ⊥ = λ w. z (early-number ∙ number-wanted (soundIn s) (wantedIn s) n .1 w) in
       let k = refused-keeps s .unused (arrives n m) (λ h x g. u (record { sound = h; wanted = x; least = least-of h x; greatest = g })) in
-      outcome-is (delivered s (arrives n m)) (numberOf a) s (early-number ∙ ap (λ (x : Case). x .number) (sym (answer-number s (arrives n m) u))) (sym (k .1))
+      outcome-is (delivered s (arrives n m)) (numberOf a) s
+      (early-number ∙ ap (λ (x : Case). x .number) (sym (answer-number s (arrives n m) u))) (sym (k .1))
     where
       least-of : soundIn s ≡ true → n ≡ wantedIn s → 1 ≤ n
       least-of h x = omega (arith, sound-gives (s .counters) (length (s .rows)) (length (s .lines)) h .least)
@@ -269,7 +283,8 @@ module _ (s : State) (symbol : List ℕ) where
   unfolding located
   locate-none h f = rw (row-picked, h, f)
 
-  pub locate-there : (i : ℕ) → soundIn s ≡ true → listingOf symbol (sheetOf s) ≡ At i → record { answer = answerOf 0; row = i } ≡ located s symbol
+  pub locate-there : (i : ℕ) → soundIn s ≡ true → listingOf symbol (sheetOf s) ≡ At i
+      → record { answer = answerOf 0; row = i } ≡ located s symbol
   unfolding located
   locate-there i h f = rw (row-picked, h, f)
 
@@ -284,7 +299,8 @@ module _ (s : State) (symbol : List ℕ) where
     unfolding located
     located-row n = rw n
 
-    pub row-refused : (numberOf (p .answer) ≡ 0 → ⊥) → (x : RowShown) → x ≡ nothingShown → record { answer = p .answer; row = x } ≡ shown s symbol
+    pub row-refused : (numberOf (p .answer) ≡ 0 → ⊥) → (x : RowShown) → x ≡ nothingShown
+        → record { answer = p .answer; row = x } ≡ shown s symbol
     unfolding located shown
     row-refused z x f =
         let k : numberOf (shown s symbol .answer) ≡ 0 → ⊥ = λ q. z (row-number ∙ sym (row-told s symbol) ∙ q) in

@@ -1,4 +1,5 @@
--- Every lent byte outside the cells that a call may store in stays, and no room changes its length; no row shows a volume that does not fit.
+-- Every lent byte outside the cells that a call may store in stays, and no room changes its length; no row shows a volume that does
+-- not fit.
 -- Assumes nothing.
 use Prim.Native.Nat.{ℕ, suc, _+_, _*_, _^_, _≤_, _<_}
 use mathlib.Core.Path.{_≡_, refl, ap, sym, _∙_}
@@ -22,6 +23,7 @@ use Rattle.cells.proofs.Slabs.{found-below}
 use Rattle.kinds.specs.declared.Kind.{Kind}
 use Rattle.kinds.specs.declared.Kind.the-variants.{Event, Trade, Cancel, Correction, Summary, Other}
 use Rattle.kinds.specs.Kinds.{isEvent, isSummary, namesOld, makesNew}
+use Rattle.lines.specs.Cell.{lineCell, lineCap, atPlace, atTime, atLive}
 use Rattle.lines.specs.declared.Line.{Line}
 use Rattle.lines.specs.Lines.{lineFrom, lineLimit, lineAt, noLine, lineIn, withLine, withDead}
 use Rattle.lines.specs.Changed.{LineFits}
@@ -41,7 +43,8 @@ use Rattle.take.specs.Taking.{madeLine, correctedLine, corrected, linesBy, repo
 use Rattle.show.specs.Showing.{shownOf, nothingShown}
 use Rattle.book.specs.State.{State, Arrival, wantedIn, rowsIn, sheetOf, linesIn, soundIn}
 use Rattle.book.proofs.Demand1.{answer-taken}
-use Rattle.book.specs.Calls.{listAnswer, withListing, listed, messageGiven, rowNamed, lineNamed, taking, spent, delivered, rowAnswer, rowFound, shown}
+use Rattle.book.specs.Calls.{listAnswer, withListing, listed, messageGiven, rowNamed, lineNamed, taking, spent, delivered, rowAnswer}
+use Rattle.book.specs.Calls.{rowFound, shown}
 
 -- j is before a start, or not before an end
 abbrev pub Outside : ℕ → ℕ → ℕ → Type 0
@@ -79,12 +82,13 @@ module _ (r : Record) (f : RecordFits r) where
         price = f .new .price;
         size = f .new .size;
         condition = f .new .condition;
-        place = kept-fits (λ l. l .place) m k (be-below m (k * 40 + 31) 4 b) (lit< tt);
-        time = kept-fits (λ l. l .time) m k (be-below m (k * 40 + 35) 4 b) (lit< tt);
+        place = kept-fits (λ l. l .place) m k (be-below m (k * lineCell + atPlace) 4 b) (lit< tt);
+        time = kept-fits (λ l. l .time) m k (be-below m (k * lineCell + atTime) 4 b) (lit< tt);
       }
 
 -- what is stored keeps what is outside its place
-line-outside : (m : List ℕ) (i : ℕ) (l : Line) (j : ℕ) → LineFits l → Outside (i * 40) (i * 40 + 40) j → getD (withLine m i l) j 0 ≡ getD m j 0
+line-outside : (m : List ℕ) (i : ℕ) (l : Line) (j : ℕ) → LineFits l → Outside (i * lineCell) (i * lineCell + lineCell) j
+    → getD (withLine m i l) j 0 ≡ getD m j 0
 line-outside m i l j f o = ⊎-elim (line-touches m i l j f .0) (line-touches m i l j f .1) o
 
 row-outside : (m : List ℕ) (i from : ℕ) (bytes : List ℕ) (start end j : ℕ)
@@ -127,7 +131,8 @@ byte j m = getD m j 0
 
 -- a message that names a line may change its live mark, one that makes a line that line's cell
 pub lines-by-keep : (kind : Kind) (m : List ℕ) (used n : ℕ) (r : Record) (k j : ℕ) → Bytes m → RecordFits r → n < 2 ^ 32
-    → (namesOld kind ≡ true → j ≡ k * 40 + 39 → ⊥) → (makesNew kind ≡ true → Outside (used * 40) (used * 40 + 40) j)
+    → (namesOld kind ≡ true → j ≡ k * lineCell + atLive → ⊥)
+    → (makesNew kind ≡ true → Outside (used * lineCell) (used * lineCell + lineCell) j)
     → getD (linesBy kind m used n r k) j 0 ≡ getD m j 0
 lines-by-keep kind m used n r k j b f h names makes =
     by-lines (byte j) kind m used n r k
@@ -152,8 +157,10 @@ rows-by-keep kind m r i j p o =
     let s : length (summaryBytes (r .high) (r .low)) ≡ 9 = summary-length (r .high) (r .low) in
     let v : length (reportBytes (r .consolidated)) ≡ 9 = report-length (r .consolidated) in
     by-rows (byte j) kind m r i
-    (λ e. row-outside m i atSummary (summaryBytes (r .high) (r .low)) (at + atSummary) (at + atReported) j (omega arith) (omega arith) (omega arith) (p e))
-    (λ e w. row-outside w i atReported (reportBytes (r .consolidated)) (at + atReported) (at + rowCell) j (omega arith) (omega arith) (omega arith) (o e))
+    (λ e. row-outside m i atSummary (summaryBytes (r .high) (r .low)) (at + atSummary) (at + atReported) j (omega arith)
+    (omega arith) (omega arith) (p e))
+    (λ e w. row-outside w i atReported (reportBytes (r .consolidated)) (at + atReported) (at + rowCell) j (omega arith)
+    (omega arith) (omega arith) (o e))
 
 pub rows-by-length : (kind : Kind) (m : List ℕ) (r : Record) (i : ℕ) → length (rowsBy kind m r i) ≡ length m
 rows-by-length kind m r i =
@@ -174,17 +181,22 @@ module _ (s : State) where
   -- every byte that a call keeps, and that no room changes its size
   pub record TouchesOnly : Type 0 where
     -- a listing: all but the new row's cell
-    pub listing : (l : Listing) (j : ℕ) → length (l .symbol) ≡ 8 → Outside (s .counters .rows * rowCell) (s .counters .rows * rowCell + rowCell) j
+    pub listing : (l : Listing) (j : ℕ) → length (l .symbol) ≡ 8
+        → Outside (s .counters .rows * rowCell) (s .counters .rows * rowCell + rowCell) j
         → getD (listed s l .state .rows) j 0 ≡ getD (s .rows) j 0
     -- a message, rows: all but the reported volume of its row and, of a J, what the row keeps of a J; an event touches none
     pub inRows : (a : Arrival) (j : ℕ)
-        → (isSummary (kindOfArrived a) ≡ true → Outside (rowNamed s (arrived a) * rowCell + atSummary) (rowNamed s (arrived a) * rowCell + atReported) j)
-        → (isEvent (kindOfArrived a) ≡ false → Outside (rowNamed s (arrived a) * rowCell + atReported) (rowNamed s (arrived a) * rowCell + rowCell) j)
+        →
+        (isSummary (kindOfArrived a) ≡ true → Outside (rowNamed s (arrived a) * rowCell + atSummary)
+        (rowNamed s (arrived a) * rowCell + atReported) j)
+        →
+        (isEvent (kindOfArrived a) ≡ false → Outside (rowNamed s (arrived a) * rowCell + atReported)
+        (rowNamed s (arrived a) * rowCell + rowCell) j)
         → getD (delivered s a .state .rows) j 0 ≡ getD (s .rows) j 0
     -- a message, lines: all but the live mark of the line that X and C name, and the new cell of T and C
     pub inLines : (a : Arrival) (j : ℕ) → Bytes (s .lines) → Bytes (a .message)
-        → (namesOld (kindOfArrived a) ≡ true → j ≡ lineNamed s (arrived a) * 40 + 39 → ⊥)
-        → (makesNew (kindOfArrived a) ≡ true → Outside (s .counters .lines * 40) (s .counters .lines * 40 + 40) j)
+        → (namesOld (kindOfArrived a) ≡ true → j ≡ lineNamed s (arrived a) * lineCell + atLive → ⊥)
+        → (makesNew (kindOfArrived a) ≡ true → Outside (s .counters .lines * lineCell) (s .counters .lines * lineCell + lineCell) j)
         → getD (delivered s a .state .lines) j 0 ≡ getD (s .lines) j 0
     pub listedLines : (l : Listing) → listed s l .state .lines ≡ s .lines
     pub listedLength : (l : Listing) → length (listed s l .state .rows) ≡ length (s .rows)
@@ -201,7 +213,8 @@ module _ (s : State) where
       go false = refl
 
   -- the same of a message that is taken; where it is refused, a number may be used up
-  by-arrival : {A : Type 0} (f : State → A) (a : Arrival) → f (spent s) ≡ f s → (messageGiven s a .number ≡ 0 → f (taking s (arrived a)) ≡ f s)
+  by-arrival : {A : Type 0} (f : State → A) (a : Arrival) → f (spent s) ≡ f s
+      → (messageGiven s a .number ≡ 0 → f (taking s (arrived a)) ≡ f s)
       → f (delivered s a .state) ≡ f s
   unfolding delivered
   by-arrival f a u d = go (eqb (messageGiven s a .number) 0) refl (messageGiven s a .uses)
@@ -211,7 +224,8 @@ module _ (s : State) where
       go false t true = u
       go false t false = refl
 
-  listing-keeps : (l : Listing) (j : ℕ) → length (l .symbol) ≡ 8 → Outside (s .counters .rows * rowCell) (s .counters .rows * rowCell + rowCell) j
+  listing-keeps : (l : Listing) (j : ℕ) → length (l .symbol) ≡ 8
+      → Outside (s .counters .rows * rowCell) (s .counters .rows * rowCell + rowCell) j
       → getD (withRow (s .rows) (s .counters .rows) l) j 0 ≡ getD (s .rows) j 0
   listing-keeps l j h o =
       let i = s .counters .rows in
@@ -219,34 +233,41 @@ module _ (s : State) where
       row-outside (s .rows) i 0 (newRow l) (i * rowCell) (i * rowCell + rowCell) j (omega arith) (omega arith) (omega arith) o
 
   taking-keeps : (a : Arrival) (j : ℕ) → Bytes (s .lines) → Bytes (a .message)
-      → (namesOld (kindOfArrived a) ≡ true → j ≡ lineNamed s (arrived a) * 40 + 39 → ⊥)
-      → (makesNew (kindOfArrived a) ≡ true → Outside (s .counters .lines * 40) (s .counters .lines * 40 + 40) j)
+      → (namesOld (kindOfArrived a) ≡ true → j ≡ lineNamed s (arrived a) * lineCell + atLive → ⊥)
+      → (makesNew (kindOfArrived a) ≡ true → Outside (s .counters .lines * lineCell) (s .counters .lines * lineCell + lineCell) j)
       → messageGiven s a .number ≡ 0 → getD (taking s (arrived a) .lines) j 0 ≡ getD (s .lines) j 0
   taking-keeps a j bl bm k o z =
       let w = answer-taken s a z in
       let fits : wantedIn s < 2 ^ 32 = omega (arith, w .wanted, w .greatest) in
-      lines-by-keep (kindOfArrived a) (s .lines) (s .counters .lines) (wantedIn s) (arrived a) (lineNamed s (arrived a)) j bl (read-fits (a .message) bm) fits k o
+      lines-by-keep (kindOfArrived a) (s .lines) (s .counters .lines) (wantedIn s) (arrived a) (lineNamed s (arrived a)) j bl
+      (read-fits (a .message) bm) fits k o
 
   pub touches-only : TouchesOnly
   touches-only =
       record {
         listing = λ l j h o. by-listing (λ t. getD (t .rows) j 0) l (listing-keeps l j h o);
-        inRows = λ a j p o. by-arrival (λ t. getD (t .rows) j 0) a refl (λ z. rows-by-keep (kindOfArrived a) (s .rows) (arrived a) (rowNamed s (arrived a)) j p o);
+        inRows =
+            λ a j p o. by-arrival (λ t. getD (t .rows) j 0) a refl
+            (λ z. rows-by-keep (kindOfArrived a) (s .rows) (arrived a) (rowNamed s (arrived a)) j p o);
         inLines = λ a j bl bm k o. by-arrival (λ t. getD (t .lines) j 0) a refl (λ z. taking-keeps a j bl bm k o z);
         listedLines = λ l. by-listing (λ t. t .lines) l refl;
         listedLength = λ l. by-listing (λ t. length (t .rows)) l (row-length (s .rows) (s .counters .rows) 0 (newRow l));
-        rowsLength = λ a. by-arrival (λ t. length (t .rows)) a refl (λ z. rows-by-length (kindOfArrived a) (s .rows) (arrived a) (rowNamed s (arrived a)));
+        rowsLength =
+            λ a. by-arrival (λ t. length (t .rows)) a refl
+            (λ z. rows-by-length (kindOfArrived a) (s .rows) (arrived a) (rowNamed s (arrived a)));
         linesLength =
             λ a. by-arrival (λ t. length (t .lines)) a refl
             (λ z. lines-by-length (kindOfArrived a) (s .lines) (s .counters .lines) (wantedIn s) (arrived a) (lineNamed s (arrived a)));
       }
 
   -- no row shows a volume above 65,536 times the greatest size
-  pub volume-shown : (symbol : List ℕ) → Bytes (s .lines) → shown s symbol .row .volume ≤ 65536 * 4294967295
+  pub volume-shown : (symbol : List ℕ) → Bytes (s .lines) → shown s symbol .row .volume ≤ lineCap * 4294967295
   unfolding shown shownOf
   volume-shown symbol b = go (eqb (rowAnswer s symbol) 0)
     where
-      go : (t : Bool) → cond t (shownOf (rowIn (s .rows) (rowFound s symbol)) (figuresOf symbol (linesIn s))) nothingShown .volume ≤ 65536 * 4294967295
+      go : (t : Bool)
+          → cond t
+          (shownOf (rowIn (s .rows) (rowFound s symbol)) (figuresOf symbol (linesIn s))) nothingShown .volume ≤ lineCap * 4294967295
       go true = volume-fits (s .lines) symbol (s .counters .lines) b
       go false = omega arith
 
@@ -274,7 +295,8 @@ row-reads s symbol z = go (listingOf symbol (sheetOf s)) refl (listed-there (sou
     go (At i) e l =
         let b : i < length (sheetOf s) = found-below (isOf symbol) (sheetOf s) i e in
         let n : length (sheetOf s) ≡ length (rowsIn s) = length-map (rowsIn s) (λ (r : Row). r .listing) in
-        let k : getD (rowsIn s) i noRow ≡ rowIn (s .rows) i = row-in (s .rows) (s .counters .rows) i (omega (arith, used-rows-length (s .rows) (s .counters .rows))) in
+        let k : getD (rowsIn s) i noRow ≡ rowIn (s .rows) i
+        = row-in (s .rows) (s .counters .rows) i (omega (arith, used-rows-length (s .rows) (s .counters .rows))) in
         record {
           row = getD (rowsIn s) i noRow;
           first = (i, e, refl);

@@ -81,7 +81,8 @@ fn judge_listing(c: Counters, rows: &[u8], lines: &[u8], l: Listing) -> Answer
 
 // Lists a symbol with its close: a row added at the end.
 pub fn list(c: Counters, rows: &mut [u8], lines: &[u8], l: Listing) -> Said
-    ensures { λ s. ⌜ leaving s (now (rows .exit)) (now (lines .entry)) ≡ listed (lent c (now (rows .entry)) (now (lines .entry))) l ⌝ }
+    ensures { λ s. ⌜ leaving s (now (rows .exit)) (now (lines .entry))
+        ≡ listed (lent c (now (rows .entry)) (now (lines .entry))) l ⌝ }
 {
     let a = judge_listing(c, rows, lines, l);
     if answers::number(a) != 0 {
@@ -100,7 +101,8 @@ pub fn list(c: Counters, rows: &mut [u8], lines: &[u8], l: Listing) -> Said
 // A message that bears the wanted number: taken, or the number used up.
 fn use_number(c: Counters, rows: &mut [u8], lines: &mut [u8], message: &[u8]) -> Said
     requires { ⌜ given (numberCases (lent c (now rows) (now lines)) (c .wanted)) .number ≡ 0 ⌝ }
-    ensures { λ s. ⌜ leaving s (now (rows .exit)) (now (lines .exit)) ≡ delivered (lent c (now (rows .entry)) (now (lines .entry))) (arrives (c .wanted) (now (message .entry))) ⌝ }
+    ensures { λ s. ⌜ leaving s (now (rows .exit)) (now (lines .exit))
+        ≡ delivered (lent c (now (rows .entry)) (now (lines .entry))) (arrives (c .wanted) (now (message .entry))) ⌝ }
 {
     let q = message::read(message);
     let r = q.found;
@@ -134,7 +136,8 @@ fn judge_arrival(c: Counters, rows: &[u8], lines: &[u8], number: u64) -> Answer
 
 // Delivers a message under its number.
 pub fn deliver(c: Counters, rows: &mut [u8], lines: &mut [u8], number: u64, message: &[u8]) -> Said
-    ensures { λ s. ⌜ leaving s (now (rows .exit)) (now (lines .exit)) ≡ delivered (lent c (now (rows .entry)) (now (lines .entry))) (arrives number (now (message .entry))) ⌝ }
+    ensures { λ s. ⌜ leaving s (now (rows .exit)) (now (lines .exit))
+        ≡ delivered (lent c (now (rows .entry)) (now (lines .entry))) (arrives number (now (message .entry))) ⌝ }
 {
     let a = judge_arrival(c, rows, lines, number);
     if answers::number(a) != 0 {

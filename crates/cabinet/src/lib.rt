@@ -28,9 +28,6 @@ const CORRECTION: u64 = 67;
 
 const SUMMARY: u64 = 34;
 
-// At most this many lines, however long the room.
-const LINES: u64 = 65536;
-
 // The number of an answer in the table: what every call but the first and the last tells.
 fn told(a: Answer) -> u8
     ensures { λ n. ⌜ n ≡ numberOf a ⌝ }
@@ -148,7 +145,7 @@ pub extern "C" fn sorundappa_size(which: u64) -> u64
         0 => rows::CELL as u64,
         1 => rows::CAP as u64,
         2 => lines::CELL as u64,
-        3 => LINES,
+        3 => lines::CAP as u64,
         4 => CORRECTION,
         5 => RECORD as u64,
         6 => words::COUNTERS as u64,

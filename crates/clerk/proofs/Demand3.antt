@@ -63,15 +63,19 @@ use Rattle.clerk.proofs.Wall.{row-shown, row-missing}
 pub data Lists : State → List Listing → State → Type 1 where
   no-listing : {s : State} → Lists s [] s
   -- a symbol is eight bytes and a close fits four by their types: `entered` in crates/book/proofs/list/Proof.antt proves it of every call
-  a-listing : (κs : Lfts 2) (a : ArgsD list.signature κs) (r : Said) (x : AtExit (endedOf 2 list-kinds.ps list-kinds.r) κs) {ls : List Listing} {end : State}
-      → ListingFits (listGiven κs a) → list-reads.Learnt κs a r x → Lists (listLeft κs a r x .state) ls end → Lists (listFrom κs a) (listGiven κs a ∷ ls) end
+  a-listing : (κs : Lfts 2) (a : ArgsD list.signature κs) (r : Said)
+      (x : AtExit (endedOf 2 list-kinds.ps list-kinds.r) κs) {ls : List Listing} {end : State}
+      → ListingFits (listGiven κs a) → list-reads.Learnt κs a r x → Lists (listLeft κs a r x .state) ls end
+      → Lists (listFrom κs a) (listGiven κs a ∷ ls) end
 
 -- any deliveries
 pub data Delivers : State → List Arrival → State → Type 1 where
   no-message : {s : State} → Delivers s [] s
   -- lent lines and a message are bytes by their types: `entered` in crates/book/proofs/deliver/Proof.antt proves it of every call
-  a-message : (κs : Lfts 3) (a : ArgsD deliver.signature κs) (r : Said) (x : AtExit (endedOf 3 deliver-kinds.ps deliver-kinds.r) κs) {l : List Arrival} {end : State}
-      → Bytes (deliverFrom κs a .lines) → Bytes (deliverGiven κs a .message) → deliver-reads.Learnt κs a r x → Delivers (deliverLeft κs a r x .state) l end
+  a-message : (κs : Lfts 3) (a : ArgsD deliver.signature κs) (r : Said)
+      (x : AtExit (endedOf 3 deliver-kinds.ps deliver-kinds.r) κs) {l : List Arrival} {end : State}
+      → Bytes (deliverFrom κs a .lines) → Bytes (deliverGiven κs a .message) → deliver-reads.Learnt κs a r x
+      → Delivers (deliverLeft κs a r x .state) l end
       → Delivers (deliverFrom κs a) (deliverGiven κs a ∷ l) end
 
 -- a message with its number, and what was said back
@@ -154,7 +158,8 @@ left-state : (o p : Outcome) → o ≡ p → p .state ≡ o .state
 left-state o p e = sym (ap (λ (x : Outcome). x .state) e)
 
 -- the answer that was told is the one of the number that was given
-answer-said : (s : State) (a : Arrival) (r : Answer) (n : ℕ) → numberOf r ≡ delivered s a .answer → delivered s a .answer ≡ n → r ≡ answerOf n
+answer-said : (s : State) (a : Arrival) (r : Answer) (n : ℕ) → numberOf r ≡ delivered s a .answer → delivered s a .answer ≡ n
+    → r ≡ answerOf n
 unfolding delivered
 answer-said s a r n e f = one-number-each r (answerOf n) (e ∙ sym (message-told s a) ∙ ap (λ (k : ℕ). numberOf (answerOf k)) f)
 
@@ -167,7 +172,8 @@ module _ (R L : ℕ) where
       → Lists s ls end → Stands R L (listedBook sheet) s → Stands R L (listedBook (sheetFrom (rowLimit R) sheet ls)) end
   unfolding sheetFrom
   lists-are sheet no-listing h = h
-  lists-are sheet (a-listing κs a r x {ls} {end} f q t) h = lists-are (plus (rowLimit R) sheet l) t (stands-left (left-state (listLeft κs a r x) (listed s l) q) next-stands)
+  lists-are sheet (a-listing κs a r x {ls} {end} f q t) h =
+      lists-are (plus (rowLimit R) sheet l) t (stands-left (left-state (listLeft κs a r x) (listed s l) q) next-stands)
     where
       s : State
       s = listFrom κs a
@@ -219,18 +225,21 @@ module _ (R L : ℕ) where
     says : 1 ≤ a .number → a .number ≤ lastNumber → a .number ≡ b .wanted → delivered s a .answer ≡ content (lineLimit L) b (a .message)
     unfolding delivered
     says least greatest e =
-        let w : Wanted true (wantedIn s) (a .number) = record { sound = refl; wanted = e ∙ sym wants; least = least; greatest = greatest } in
+        let w : Wanted true (wantedIn s) (a .number)
+        = record { sound = refl; wanted = e ∙ sym wants; least = least; greatest = greatest } in
         answer-is s a (h .safe) w
         ∙ ap (λ (x : Book). content (lineLimit (length (s .lines))) x (a .message)) (h .reads)
         ∙ ap (λ (x : ℕ). content (lineLimit x) b (a .message)) (h .lineRoom)
 
-  pub delivers-are : {s end : State} {l : List Arrival} (b : Book) → Delivers s l end → Stands R L b s → Stands R L (deliverEach (lineLimit L) b l) end
+  pub delivers-are : {s end : State} {l : List Arrival} (b : Book) → Delivers s l end → Stands R L b s
+      → Stands R L (deliverEach (lineLimit L) b l) end
   unfolding deliverEach
   delivers-are b no-message h = h
   delivers-are b (a-message κs a r x bl bm q t) h =
       let s = deliverFrom κs a in
       let given = deliverGiven κs a in
-      delivers-are (next (lineLimit L) b given) t (stands-left (left-state (deliverLeft κs a r x) (delivered s given) q) (delivered-stands s given bl bm b h))
+      delivers-are (next (lineLimit L) b given) t
+      (stands-left (left-state (deliverLeft κs a r x) (delivered s given) q) (delivered-stands s given bl bm b h))
 
   -- ---- which calls use up a number
 
@@ -301,16 +310,19 @@ module _ (R L : ℕ) where
             let before = wants s a bl bm (clerks j) h in
             let later = ap (λ (b : Book). b .wanted) step in
             let moved : eqb (r .counters .wanted) (wantedIn s) ≡ false
-            = ne-eqb (r .counters .wanted) (wantedIn s) (λ y. omega (arith, y, before, wanted-left, later, clerks-wanted j, clerks-wanted (suc j))) in
+            = ne-eqb (r .counters .wanted) (wantedIn s)
+            (λ y. omega (arith, y, before, wanted-left, later, clerks-wanted j, clerks-wanted (suc j))) in
             let number : delivered s a .answer ≡ clerks-answer j
             = says s a bl bm (clerks j) h low high here ∙ ap (content (lineLimit L) (clerks j)) copy ∙ clerks-says j in
-            let said : r .answer ≡ answerOf (clerks-answer j) = answer-said s a (r .answer) (clerks-answer j) (ap (λ (o : Outcome). o .answer) q) number in
+            let said : r .answer ≡ answerOf (clerks-answer j)
+            = answer-said s a (r .answer) (clerks-answer j) (ap (λ (o : Outcome). o .answer) q) number in
             let rest = more (subst (λ (b : Book). Stands R L b left) step then) in
             rw (moved, got-at (suc j) k (numbers l) w, i, copy, said, rest)
         go false w more same =
             let other = next-other (lineLimit L) (clerks j) a (λ y. eqb-false k (suc j) w (y ∙ clerks-wanted j)) in
             let still : eqb (r .counters .wanted) (wantedIn s) ≡ true
-            = eq-eqb (r .counters .wanted) (wantedIn s) (wanted-left ∙ ap (λ (b : Book). b .wanted) other ∙ sym (wants s a bl bm (clerks j) h)) in
+            = eq-eqb (r .counters .wanted) (wantedIn s)
+            (wanted-left ∙ ap (λ (b : Book). b .wanted) other ∙ sym (wants s a bl bm (clerks j) h)) in
             let rest = same (subst (λ (b : Book). Stands R L b left) other then) in
             rw (still, got-other (suc j) k (numbers l) w) rest
 
@@ -404,12 +416,15 @@ module _ (day : ℕ → List ℕ) (N n : ℕ) (fits : N ≤ lastNumber) (l : Lis
 -- two runs of one day with one sheet, one size of room for lines and one n end in the clerk's book, both, and so in equal books,
 -- whatever the rooms held before
 pub equal-books : (day : ℕ → List ℕ) (N n : ℕ) → N ≤ lastNumber
-    → {rows lines : List ℕ} {ls : List Listing} {l : List Arrival} {end : State} → {rows′ lines′ : List ℕ} {ls′ : List Listing} {l′ : List Arrival} {end′ : State}
+    → {rows lines : List ℕ} {ls : List Listing} {l : List Arrival} {end : State}
+    → {rows′ lines′ : List ℕ} {ls′ : List Listing} {l′ : List Arrival} {end′ : State}
     → length lines ≡ length lines′ → sheetOf (rowLimit (length rows)) ls ≡ sheetOf (rowLimit (length rows′)) ls′
-    → Copies day N l → Copies day N l′ → Largest (numbers l) n → Largest (numbers l′) n → Day rows lines ls l end → Day rows′ lines′ ls′ l′ end′
+    → Copies day N l → Copies day N l′ → Largest (numbers l) n → Largest (numbers l′) n → Day rows lines ls l end
+    → Day rows′ lines′ ls′ l′ end′
     → let clerks = clerkBook (sheetOf (rowLimit (length rows)) ls) (lineLimit (length lines)) (upto day n) in
     (bookOf end ≡ clerks) × (bookOf end′ ≡ clerks) × (bookOf end ≡ bookOf end′)
-equal-books day N n fits {rows} {lines} {ls} {l} {end} {rows′} {lines′} {ls′} {l′} {end′} el es c c′ g g′ h h′ = (one, other, one ∙ sym other)
+equal-books day N n fits {rows} {lines} {ls} {l} {end} {rows′} {lines′} {ls′} {l′} {end′} el es c c′ g g′ h h′ =
+    (one, other, one ∙ sym other)
   where
     clerks : Book
     clerks = clerkBook (sheetOf (rowLimit (length rows)) ls) (lineLimit (length lines)) (upto day n)

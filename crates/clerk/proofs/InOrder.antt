@@ -3,7 +3,8 @@
 use Prim.Native.Nat.{ℕ, zero, suc, _+_, _≤_}
 use mathlib.Core.Path.{_≡_, refl, sym, ap, _∙_}
 use mathlib.Core.Bool.{Bool, true, false, cond}
-use mathlib.Core.List.{List, [], _∷_, Sublistᴰ, Sublistᴰ·slnil, Sublistᴰ·cons, Sublistᴰ·cons-cons, Sublistᴰ·cases-cons-cons, Sublistᴰ·eq-nil, Sublistᴰ·trans, Sublistᴰ·refl, cons≢nil}
+use mathlib.Core.List.{List, [], _∷_, Sublistᴰ, Sublistᴰ·slnil, Sublistᴰ·cons, Sublistᴰ·cons-cons, Sublistᴰ·cases-cons-cons}
+use mathlib.Core.List.{Sublistᴰ·eq-nil, Sublistᴰ·trans, Sublistᴰ·refl, cons≢nil}
 use mathlib.Core.Logic.{_⊎_, inl, inr}
 use native.Mathlib.Numerals.{add-one}
 use native.Mathlib.Omega.{arith}
@@ -38,7 +39,8 @@ unfolding run got
 occurs w [] = Sublistᴰ·slnil
 occurs w (k ∷ ks) = go (eqb k w) refl (occurs (suc w) ks) (occurs w ks)
   where
-    go : (t : Bool) → eqb k w ≡ t → Sublistᴰ (run (suc w) (got (suc w) ks)) ks → Sublistᴰ (run w (got w ks)) ks → Sublistᴰ (run w (got w (k ∷ ks))) (k ∷ ks)
+    go : (t : Bool) → eqb k w ≡ t → Sublistᴰ (run (suc w) (got (suc w) ks)) ks → Sublistᴰ (run w (got w ks)) ks
+        → Sublistᴰ (run w (got w (k ∷ ks))) (k ∷ ks)
     go true e s r = rw (got-at w k ks e) (Sublistᴰ·cons-cons (sym (eqb-true k w e)) s)
     go false e s r = rw (got-other w k ks e) (Sublistᴰ·cons r)
 
@@ -82,7 +84,8 @@ next-at limit b a l h e =
 pub next-other : (limit : ℕ) (b : Book) (a : Arrival) → (a .number ≡ b .wanted → ⊥) → next limit b a ≡ b
 unfolding next
 next-other limit b a ne =
-    let z = ne-eqb (given (numberTable (b .wanted) (a .number)) .number) 0 (λ e. ne (number-wanted true (b .wanted) (a .number) .0 e .wanted)) in
+    let z
+    = ne-eqb (given (numberTable (b .wanted) (a .number)) .number) 0 (λ e. ne (number-wanted true (b .wanted) (a .number) .0 e .wanted)) in
     rw z
 
 pub after-wanted : (limit : ℕ) (b : Book) (m : List ℕ) → after limit b m .wanted ≡ suc (b .wanted)
@@ -126,10 +129,12 @@ module _ (limit : ℕ) (day : ℕ → List ℕ) (N : ℕ) (fits : N ≤ lastNumb
           let q : k ≡ suc j = eqb-true k (suc j) e in
           let g : got (suc (suc j)) (numbers l) + suc j ≡ got (suc j) (k ∷ numbers l) + j = omega (arith, got-at (suc j) k (numbers l) e) in
           ap (λ (x : Book). deliverEach limit x l)
-          (next-at limit (upTo j) a (omega arith) (omega (arith, c .0 .0)) (q ∙ sym (play-wanted j)) ∙ ap (after limit (upTo j)) (c .0 .1 (omega arith) ∙ ap day q) ∙ play-more j)
+          (next-at limit (upTo j) a (omega arith) (omega (arith, c .0 .0)) (q ∙ sym (play-wanted j))
+          ∙ ap (after limit (upTo j)) (c .0 .1 (omega arith) ∙ ap day q) ∙ play-more j)
           ∙ more
           ∙ ap upTo g
-      go false e more same = rw (next-other limit (upTo j) a (λ q. eqb-false k (suc j) e (q ∙ play-wanted j)), got-other (suc j) k (numbers l) e) same
+      go false e more same =
+          rw (next-other limit (upTo j) a (λ q. eqb-false k (suc j) e (q ∙ play-wanted j)), got-other (suc j) k (numbers l) e) same
 
   -- what the arrivals do is what playing 1 to n does
   pub used-exactly : (l : List Arrival) (n : ℕ) → Copies day N l → Largest (numbers l) n → deliverEach limit b l ≡ play limit b (upto day n)

@@ -54,9 +54,11 @@ trade-bytes m s v b h = record { centre = b 5; symbol = part-bytes m 6 8 b; sale
 fields-bytes : (m : List ℕ) → Bytes m → RecordBytes (fieldsOf m)
 unfolding fieldsOf fieldsS fieldsJ
 fields-bytes m b =
-    either-way RecordBytes (eqb (getD m 4 0) 83) (fieldsS m) _ (record { centre = lit< tt; symbol = zeros-bytes 8; sale = no-sale-bytes; new = no-sale-bytes })
+    either-way RecordBytes (eqb (getD m 4 0) 83) (fieldsS m) _
+    (record { centre = lit< tt; symbol = zeros-bytes 8; sale = no-sale-bytes; new = no-sale-bytes })
     (either-way RecordBytes (eqb (getD m 4 0) 67) (fieldsC m) _ (trade-bytes m (saleAt m 37) _ b (sale-bytes m 37 b))
-    (either-way RecordBytes (eqb (getD m 4 0) 74) (fieldsJ m) (fieldsT m) (record { centre = lit< tt; symbol = part-bytes m 5 8 b; sale = no-sale-bytes; new = no-sale-bytes })
+    (either-way RecordBytes (eqb (getD m 4 0) 74) (fieldsJ m) (fieldsT m)
+    (record { centre = lit< tt; symbol = part-bytes m 5 8 b; sale = no-sale-bytes; new = no-sale-bytes })
     (trade-bytes m noSale _ b no-sale-bytes)))
 
 read-bytes : (m : List ℕ) → Bytes m → RecordBytes (readOf m .found)
@@ -70,10 +72,13 @@ read-bytes m b =
 
 module _ (r : Record) (h : RecordBytes r) where
   made-bytes : (n : ℕ) → Bytes (lineBytes (madeLine n r))
-  made-bytes n = line-bytes (madeLine n r) (cons-bytes (r .centre) (r .sale .control) (h .centre) (h .sale .control)) (h .symbol) (h .sale .condition)
+  made-bytes n =
+      line-bytes (madeLine n r) (cons-bytes (r .centre) (r .sale .control) (h .centre) (h .sale .control)) (h .symbol) (h .sale .condition)
 
   corrected-bytes : (l : Line) → Bytes (lineBytes (correctedLine l r))
-  corrected-bytes l = line-bytes (correctedLine l r) (cons-bytes (r .centre) (r .new .control) (h .centre) (h .new .control)) (h .symbol) (h .new .condition)
+  corrected-bytes l =
+      line-bytes (correctedLine l r) (cons-bytes (r .centre) (r .new .control) (h .centre) (h .new .control)) (h .symbol)
+      (h .new .condition)
 
   lines-bytes : (kind : Kind) (m : List ℕ) (used n k : ℕ) → Bytes m → Bytes (linesBy kind m used n r k)
   unfolding linesBy

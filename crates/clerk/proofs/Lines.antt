@@ -85,7 +85,8 @@ unfolding first
 first-up serves [] s = refl
 first-up serves (x ∷ xs) s = go (serves x) (first-up serves xs (suc s))
   where
-    go : (t : Bool) → first serves xs (suc (suc s)) ≡ up (first serves xs (suc s)) → cond t (At (suc s)) (first serves xs (suc (suc s))) ≡ up (cond t (At s) (first serves xs (suc s)))
+    go : (t : Bool) → first serves xs (suc (suc s)) ≡ up (first serves xs (suc s))
+        → cond t (At (suc s)) (first serves xs (suc (suc s))) ≡ up (cond t (At s) (first serves xs (suc s)))
     go true e = refl
     go false e = e
 
@@ -93,7 +94,8 @@ pub first-hit : {A : Type 0} (serves : A → Bool) (x : A) (xs : List A) → ser
 unfolding first
 first-hit serves x xs e = rw e
 
-pub first-miss : {A : Type 0} (serves : A → Bool) (x : A) (xs : List A) → serves x ≡ false → first serves (x ∷ xs) 0 ≡ up (first serves xs 0)
+pub first-miss : {A : Type 0} (serves : A → Bool) (x : A) (xs : List A) → serves x ≡ false
+    → first serves (x ∷ xs) 0 ≡ up (first serves xs 0)
 unfolding first
 first-miss serves x xs e = rw e (first-up serves xs 0)
 
@@ -163,7 +165,8 @@ named-append key (l ∷ xs) ys = go (same (l .key) key) refl (named-append key x
     go false t i = rw (named-miss key l (xs ++ ys) t, named-miss key l xs t) i
 
 -- a line that is borne and not dead is live
-pub named-live : (key : List ℕ) (ls : List Line) → isFound (lineWith key ls) ≡ true → deadAt ls (lineWith key ls) ≡ false → named key ls .live ≡ true
+pub named-live : (key : List ℕ) (ls : List Line) → isFound (lineWith key ls) ≡ true → deadAt ls (lineWith key ls) ≡ false
+    → named key ls .live ≡ true
 unfolding named
 named-live key ls b d = go (lineWith key ls) b d
   where
@@ -188,7 +191,10 @@ kill-none : (key : List ℕ) (ls : List Line) → isIn key (keysOf ls) ≡ false
 unfolding kill
 kill-none key [] h = refl
 kill-none key (l ∷ ls) h =
-    rw (or-false-left (same (l .key) key) (isIn key (keysOf ls)) h, kill-none key ls (or-false-right (same (l .key) key) (isIn key (keysOf ls)) h))
+    rw (
+      or-false-left (same (l .key) key) (isIn key (keysOf ls)) h,
+      kill-none key ls (or-false-right (same (l .key) key) (isIn key (keysOf ls)) h),
+    )
 
 kill-up : (l : Line) (ls : List Line) (f : Found) → killFound (l ∷ ls) (up f) ≡ l ∷ killFound ls f
 kill-up l ls Nothing = refl
@@ -200,7 +206,8 @@ unfolding kill first
 kill-found key [] u = refl
 kill-found key (l ∷ ls) u = go (same (l .key) key) refl (kill-found key ls (u .1))
   where
-    go : (t : Bool) → same (l .key) key ≡ t → killFound ls (lineWith key ls) ≡ map (kill key) ls → killFound (l ∷ ls) (lineWith key (l ∷ ls)) ≡ cond t (dead l) l ∷ map (kill key) ls
+    go : (t : Bool) → same (l .key) key ≡ t → killFound ls (lineWith key ls) ≡ map (kill key) ls
+        → killFound (l ∷ ls) (lineWith key (l ∷ ls)) ≡ cond t (dead l) l ∷ map (kill key) ls
     go true t i =
         ap (killFound (l ∷ ls)) (first-hit (bears key) l ls t)
         ∙ ap {B = List Line} (λ rest. dead l ∷ rest) (sym (kill-none key ls (rw (same-is (l .key) key .0 t) at (u .0))))

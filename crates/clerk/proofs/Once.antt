@@ -5,7 +5,8 @@ use Prim.Native.Nat.{ℕ}
 use mathlib.Core.Path.{_≡_, refl, sym, ap, subst, _∙_}
 use mathlib.Core.Logic.{_↔_, ⊎-elim}
 use mathlib.Core.Bool.{Bool, true, false, cond, _||_, true≢false}
-use mathlib.Core.List.{List, [], _∷_, _++_, List·Memᴰ, List·Memᴰ·head, List·Memᴰ·not-nil, List·Memᴰ·eq-of-singleton, List·Memᴰ·append-cases, Memᴰ·append-left, Memᴰ·append-right, map-append, append-nil, append-assoc}
+use mathlib.Core.List.{List, [], _∷_, _++_, List·Memᴰ, List·Memᴰ·head, List·Memᴰ·not-nil, List·Memᴰ·eq-of-singleton, List·Memᴰ·append-cases}
+use mathlib.Core.List.{Memᴰ·append-left, Memᴰ·append-right, map-append, append-nil, append-assoc}
 use borrow.Author.Tests.{not-true}
 use Rattle.octets.specs.Run.{same}
 use Rattle.octets.proofs.Trips.{same-is}
@@ -19,10 +20,12 @@ use Rattle.walk.specs.Walking.{figuresOf}
 use Rattle.walk.specs.Meaning.{Are}
 use Rattle.walk.proofs.Meaning.{figures-are, figures-one}
 use Rattle.show.specs.Showing.{shownOf}
-use Rattle.clerk.specs.Clerk.{isIn, basisAfter, Taken, Origin, originOf, names, trade, made, tradesBut, tradesOf, takenOf, rowOf, shownBy, bookBy, clerkBook}
+use Rattle.clerk.specs.Clerk.{isIn, basisAfter, Taken, Origin, originOf, names, trade, made, tradesBut, tradesOf, takenOf, rowOf}
+use Rattle.clerk.specs.Clerk.{shownBy, bookBy, clerkBook}
 use Rattle.clerk.specs.Claims.{NoRepeat, keysOf, namedIn, MadeLive}
 use Rattle.clerk.proofs.Passing.{Passed}
-use Rattle.clerk.proofs.Lines.{or-false-left, or-false-right, or-swap, listed-append, borne-is, named, named-hit, named-append, named-live}
+use Rattle.clerk.proofs.Lines.{or-false-left, or-false-right, or-swap, listed-append, borne-is, named, named-hit, named-append}
+use Rattle.clerk.proofs.Lines.{named-live}
 use Rattle.clerk.proofs.Sim.{brings, keys-cut, keys-more, lively, Took, took}
 
 -- ---- at most once
@@ -37,11 +40,13 @@ in-neither k xs ys e f = listed-append k xs ys ∙ rw (e, f)
 
 module _ (sheet : List Listing) (limit : ℕ) where
   -- the key that a taken message names is borne by a line
-  names-borne : (es : List Taken) (r : Record) → Passed (basisAfter sheet limit es) r → namesIn r ≡ true → isIn (oldKey r) (keysOf (tradesOf es)) ≡ true
+  names-borne : (es : List Taken) (r : Record) → Passed (basisAfter sheet limit es) r → namesIn r ≡ true
+      → isIn (oldKey r) (keysOf (tradesOf es)) ≡ true
   names-borne es r p o = sym (borne-is (oldKey r) (tradesOf es)) ∙ p .isBorne o
 
   -- a key that no line bears is not the one that it names
-  not-named : (k : List ℕ) (es : List Taken) (r : Record) → Passed (basisAfter sheet limit es) r → isIn k (keysOf (tradesOf es)) ≡ false → isIn k (names r) ≡ false
+  not-named : (k : List ℕ) (es : List Taken) (r : Record) → Passed (basisAfter sheet limit es) r
+      → isIn k (keysOf (tradesOf es)) ≡ false → isIn k (names r) ≡ false
   not-named k es r p h = go (namesIn r) refl
     where
       other : namesIn r ≡ true → (t : Bool) → same (oldKey r) k ≡ t → (t || false) ≡ false
@@ -59,11 +64,14 @@ module _ (sheet : List Listing) (limit : ℕ) where
   unfolding namedIn
   never-named k [] w h = refl
   never-named k (e ∷ es) w h =
-      let f : isIn k (keysOf (tradesOf es)) ≡ false = or-false-left _ (isIn k (brings (e .message))) (sym (listed-append k (keysOf (tradesOf es)) (brings (e .message))) ∙ ap (isIn k) (sym (keys-more [] e es)) ∙ h) in
+      let f : isIn k (keysOf (tradesOf es)) ≡ false
+      = or-false-left _ (isIn k (brings (e .message)))
+      (sym (listed-append k (keysOf (tradesOf es)) (brings (e .message))) ∙ ap (isIn k) (sym (keys-more [] e es)) ∙ h) in
       in-neither k (names (e .message)) (namedIn es) (not-named k es (e .message) (w .0) f) (never-named k es (w .1) f)
 
   -- the line that one message made, if it bears the key and is live, was not named later
-  made-live : (k : List ℕ) (e : Taken) (es : List Taken) (later : List (List ℕ)) → isIn k (keysOf (made e es later)) ≡ true → named k (made e es later) .live ≡ true → isIn k later ≡ false
+  made-live : (k : List ℕ) (e : Taken) (es : List Taken) (later : List (List ℕ)) → isIn k (keysOf (made e es later)) ≡ true
+      → named k (made e es later) .live ≡ true → isIn k later ≡ false
   made-live k e es later h v = go (makesIn (e .message)) h v
     where
       l : Line
@@ -72,7 +80,8 @@ module _ (sheet : List Listing) (limit : ℕ) where
       hit : (t : Bool) → same (l .key) k ≡ t → (t || false) ≡ true → named k (l ∷ []) .live ≡ true → isIn k later ≡ false
       hit true t h v =
           let q : l .key ≡ k = same-is (l .key) k .0 t in
-          ap (λ (x : List ℕ). isIn x later) (sym q) ∙ not-true (isIn (l .key) later) (ap (λ (x : Line). x .live) (sym (named-hit k l [] t)) ∙ v)
+          ap (λ (x : List ℕ). isIn x later) (sym q)
+          ∙ not-true (isIn (l .key) later) (ap (λ (x : Line). x .live) (sym (named-hit k l [] t)) ∙ v)
       hit false t h v = absurd (true≢false (sym h))
 
       go : (t : Bool) → isIn k (keysOf (cond t (l ∷ []) [])) ≡ true → named k (cond t (l ∷ []) []) .live ≡ true → isIn k later ≡ false
@@ -80,11 +89,13 @@ module _ (sheet : List Listing) (limit : ℕ) where
       go false h v = absurd (true≢false (sym h))
 
   -- a trade that is live was not named
-  live-unnamed : (k : List ℕ) (later : List (List ℕ)) (es : List Taken) → Took sheet limit es → isIn k (keysOf (tradesBut later es)) ≡ true → named k (tradesBut later es) .live ≡ true
+  live-unnamed : (k : List ℕ) (later : List (List ℕ)) (es : List Taken) → Took sheet limit es
+      → isIn k (keysOf (tradesBut later es)) ≡ true → named k (tradesBut later es) .live ≡ true
       → (isIn k (namedIn es) ≡ false) × (isIn k later ≡ false)
   unfolding tradesBut namedIn
   live-unnamed k later [] w h v = absurd (true≢false (sym h))
-  live-unnamed k later (e ∷ es) w h v = go (isIn k (keysOf A)) refl (rw (named-append k A M) at v) (λ q u. live-unnamed k (ns ++ later) es (w .1) q u)
+  live-unnamed k later (e ∷ es) w h v =
+      go (isIn k (keysOf A)) refl (rw (named-append k A M) at v) (λ q u. live-unnamed k (ns ++ later) es (w .1) q u)
     where
       ns : List (List ℕ)
       ns = names (e .message)
@@ -104,7 +115,9 @@ module _ (sheet : List Listing) (limit : ℕ) where
           (in-neither k ns (namedIn es) (or-false-left (isIn k ns) (isIn k later) f) (q .0), or-false-right (isIn k ns) (isIn k later) f)
       go false t v i =
           let f : isIn k (keysOf (tradesOf es)) ≡ false = ap (isIn k) (keys-cut [] (ns ++ later) es) ∙ t in
-          let g : isIn k (keysOf M) ≡ true = or-true (isIn k (keysOf A)) (isIn k (keysOf M)) (sym (listed-append k (keysOf A) (keysOf M)) ∙ ap (isIn k) (sym (map-append (λ (l : Line). l .key) A M)) ∙ h) t in
+          let g : isIn k (keysOf M) ≡ true
+          = or-true (isIn k (keysOf A)) (isIn k (keysOf M))
+          (sym (listed-append k (keysOf A) (keysOf M)) ∙ ap (isIn k) (sym (map-append (λ (l : Line). l .key) A M)) ∙ h) t in
           (in-neither k ns (namedIn es) (not-named k es (e .message) (w .0) f) (never-named k es (w .1) f), made-live k e es later g v)
 
   once : (es : List Taken) → Took sheet limit es → NoRepeat (namedIn es)
@@ -137,7 +150,8 @@ record Made (cut : List (List ℕ)) (es : List Taken) (l : Line) : Type 0 where
   pub line : l ≡ trade maker (originOf (maker ∷ earlier) (keyIn (maker .message))) (namedIn later ++ cut)
 
 -- only whether its key was named counts
-trade-by : (e : Taken) (o : Origin) (c d : List (List ℕ)) → isIn (keyIn (e .message)) c ≡ isIn (keyIn (e .message)) d → trade e o c ≡ trade e o d
+trade-by : (e : Taken) (o : Origin) (c d : List (List ℕ)) → isIn (keyIn (e .message)) c ≡ isIn (keyIn (e .message)) d
+    → trade e o c ≡ trade e o d
 trade-by e o c d h = ap (lively e o) h
 
 -- what one message named, before or after what others did
@@ -156,7 +170,9 @@ trade-turn e o xs ns cut = trade-by e o (xs ++ (ns ++ cut)) ((ns ++ xs) ++ cut) 
 made-of : (cut : List (List ℕ)) (es : List Taken) (l : Line) → List·Memᴰ l (tradesBut cut es) → Made cut es l
 unfolding tradesBut namedIn
 made-of cut [] l m = absurd (List·Memᴰ·not-nil m)
-made-of cut (e ∷ es) l m = ⊎-elim (λ i. before (made-of (names (e .message) ++ cut) es l i)) (λ i. here (makesIn (e .message)) refl i) (List·Memᴰ·append-cases (tradesBut (names (e .message) ++ cut) es) m)
+made-of cut (e ∷ es) l m =
+    ⊎-elim (λ i. before (made-of (names (e .message) ++ cut) es l i)) (λ i. here (makesIn (e .message)) refl i)
+    (List·Memᴰ·append-cases (tradesBut (names (e .message) ++ cut) es) m)
   where
     before : Made (names (e .message) ++ cut) es l → Made cut (e ∷ es) l
     before h =
@@ -166,10 +182,13 @@ made-of cut (e ∷ es) l m = ⊎-elim (λ i. before (made-of (names (e .message)
           earlier = h .earlier;
           whole = ap {B = List Taken} (λ x. e ∷ x) (h .whole);
           makes = h .makes;
-          line = h .line ∙ trade-turn (h .maker) (originOf (h .maker ∷ h .earlier) (keyIn (h .maker .message))) (namedIn (h .later)) (names (e .message)) cut;
+          line =
+              h .line ∙ trade-turn (h .maker) (originOf (h .maker ∷ h .earlier) (keyIn (h .maker .message))) (namedIn (h .later))
+              (names (e .message)) cut;
         }
 
-    here : (t : Bool) → makesIn (e .message) ≡ t → List·Memᴰ l (cond t (trade e (originOf (e ∷ es) (keyIn (e .message))) cut ∷ []) []) → Made cut (e ∷ es) l
+    here : (t : Bool) → makesIn (e .message) ≡ t
+        → List·Memᴰ l (cond t (trade e (originOf (e ∷ es) (keyIn (e .message))) cut ∷ []) []) → Made cut (e ∷ es) l
     here true t i = record { later = []; maker = e; earlier = es; whole = refl; makes = t; line = List·Memᴰ·eq-of-singleton i }
     here false t i = absurd (List·Memᴰ·not-nil i)
 
@@ -190,7 +209,8 @@ live-of es l = (λ h. there h, λ h. back h)
     there h =
         let g = made-of [] es l (h .0) in
         let k = keyIn (g .maker .message) in
-        let u : isIn k (namedIn (g .later) ++ []) ≡ false = not-true (isIn k (namedIn (g .later) ++ [])) (ap (λ (x : Line). x .live) (sym (g .line)) ∙ h .1) in
+        let u : isIn k (namedIn (g .later) ++ []) ≡ false
+        = not-true (isIn k (namedIn (g .later) ++ [])) (ap (λ (x : Line). x .live) (sym (g .line)) ∙ h .1) in
         record {
           later = g .later;
           maker = g .maker;
@@ -204,9 +224,13 @@ live-of es l = (λ h. there h, λ h. back h)
     back : MadeLive es l → List·Memᴰ l (tradesOf es) × (l .live ≡ true)
     back h =
         let i = made-in [] (h .later) (h .maker) (h .earlier) (h .makes) in
-        let u : isIn (keyIn (h .maker .message)) (namedIn (h .later) ++ []) ≡ false = ap (isIn (keyIn (h .maker .message))) (append-nil (namedIn (h .later))) ∙ h .unnamed in
-        let q = trade-by (h .maker) (originOf (h .maker ∷ h .earlier) (keyIn (h .maker .message))) (namedIn (h .later) ++ []) [] u ∙ sym (h .line) in (
-          subst (λ (x : List Taken). List·Memᴰ l (tradesOf x)) (sym (h .whole)) (subst (λ (x : Line). List·Memᴰ x (tradesOf (h .later ++ (h .maker ∷ h .earlier)))) q i),
+        let u : isIn (keyIn (h .maker .message)) (namedIn (h .later) ++ []) ≡ false
+        = ap (isIn (keyIn (h .maker .message))) (append-nil (namedIn (h .later))) ∙ h .unnamed in
+        let q
+        = trade-by (h .maker) (originOf (h .maker ∷ h .earlier) (keyIn (h .maker .message))) (namedIn (h .later) ++ []) [] u
+        ∙ sym (h .line) in (
+          subst (λ (x : List Taken). List·Memᴰ l (tradesOf x)) (sym (h .whole))
+              (subst (λ (x : Line). List·Memᴰ x (tradesOf (h .later ++ (h .maker ∷ h .earlier)))) q i),
           ap (λ (x : Line). x .live) (h .line),
         )
 
@@ -219,11 +243,13 @@ live-exactly sheet limit ms l = live-of (takenOf sheet limit ms) l
 -- ---- the figures
 
 -- what the clerk shows of a listed symbol are the figures that his live trades of the symbol mean
-pub clerk-figures : (es : List Taken) (l : Listing) → (f : Figures) × Are (l .symbol) (tradesOf es) f × (shownBy es l ≡ shownOf (rowOf es l) f)
+pub clerk-figures : (es : List Taken) (l : Listing)
+    → (f : Figures) × Are (l .symbol) (tradesOf es) f × (shownBy es l ≡ shownOf (rowOf es l) f)
 unfolding shownBy
 clerk-figures es l = (figuresOf (l .symbol) (tradesOf es), figures-are (l .symbol) (tradesOf es), refl)
 
 -- and no other figures
-pub clerk-figures-one : (es : List Taken) (l : Listing) (f : Figures) → Are (l .symbol) (tradesOf es) f → shownBy es l ≡ shownOf (rowOf es l) f
+pub clerk-figures-one : (es : List Taken) (l : Listing) (f : Figures) → Are (l .symbol) (tradesOf es) f
+    → shownBy es l ≡ shownOf (rowOf es l) f
 unfolding shownBy
 clerk-figures-one es l f a = ap (shownOf (rowOf es l)) (figures-one (figures-are (l .symbol) (tradesOf es)) a)

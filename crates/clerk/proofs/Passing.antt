@@ -55,7 +55,11 @@ unfolding contentTable
 passed b q e =
     let r = q .found in
     let cases = contentTable b q in
-    let d = each-of cases (none-applies cases (lit< tt, (lit< tt, (lit< tt, (lit< tt, (lit< tt, (lit< tt, (lit< tt, (lit< tt, (lit< tt, tt))))))))) .0 e) in
+    let d
+    = each-of cases (none-applies cases (
+      lit< tt,
+      (lit< tt, (lit< tt, (lit< tt, (lit< tt, (lit< tt, (lit< tt, (lit< tt, (lit< tt, tt)))))))),
+    ) .0 e) in
     let due-on = d .1 .1 in
     let named-on = due-on .1 .1 in
     let made-on = named-on .1 .1 .1 in

@@ -55,8 +55,12 @@ lists-there s (x ∷ ls) h =
     let o = listed s x in
     let k = touches-only s .listedLines x in
     let after = lent (o .state .counters) (o .state .rows) (s .lines) in
-    let t = lists-there after ls (h .1) in
-    (t .0, t .1, a-listing ([], ([], tt)) (c, (slice (s .rows), (slice (s .lines), (x, tt)))) (telling o) (c, (slice (o .state .rows), (slice (s .lines), (x, tt)))) (h .0) (told o (s .lines) (list-bears s x) (sym k)) (t .2))
+    let t = lists-there after ls (h .1) in (
+      t .0,
+      t .1,
+      a-listing ([], ([], tt)) (c, (slice (s .rows), (slice (s .lines), (x, tt)))) (telling o)
+          (c, (slice (o .state .rows), (slice (s .lines), (x, tt)))) (h .0) (told o (s .lines) (list-bears s x) (sym k)) (t .2),
+    )
 
 delivers-there : (s : State) (l : List Arrival) → Bytes (s .lines) → AllBytes l → (end : State) × Delivers s l end
 delivers-there s [] bl h = (s, no-message)
@@ -64,8 +68,12 @@ delivers-there s (a ∷ l) bl h =
     let c = s .counters in
     let m = a .message in
     let o = delivered s a in
-    let t = delivers-there (o .state) l (deliver-bytes s a bl (h .0)) (h .1) in
-    (t .0, a-message ([], ([], ([], tt))) (c, (slice (s .rows), (slice (s .lines), (a .number, (slice m, tt))))) (telling o) (c, (slice (o .state .rows), (slice (o .state .lines), (a .number, (slice m, tt))))) bl (h .0) (told o (o .state .lines) (message-bears s a) refl) (t .1))
+    let t = delivers-there (o .state) l (deliver-bytes s a bl (h .0)) (h .1) in (
+      t .0,
+      a-message ([], ([], ([], tt))) (c, (slice (s .rows), (slice (s .lines), (a .number, (slice m, tt))))) (telling o)
+          (c, (slice (o .state .rows), (slice (o .state .lines), (a .number, (slice m, tt))))) bl (h .0)
+          (told o (o .state .lines) (message-bears s a) refl) (t .1),
+    )
 
 pub day-there : (rows lines : List ℕ) (ls : List Listing) (l : List Arrival) → Bytes lines → AllFit ls → AllBytes l
     → (end : State) × Day rows lines ls l end

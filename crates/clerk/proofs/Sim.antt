@@ -33,12 +33,16 @@ use Rattle.answers.specs.Cases.{given}
 use Rattle.table.specs.Table.{searched, contentTable}
 use Rattle.book.specs.Calls.{listTable}
 use Rattle.take.specs.Taking.{madeLine, correctedLine}
-use Rattle.clerk.specs.Steps.{Book, lineFound, killFound, linesFor, keeping, summing, rowFound, rowsFor, taking, usingUp, content, after}
-use Rattle.clerk.specs.Clerk.{isIn, symbolsIn, sheetFrom, Taken, phaseAfter, Origin, originOf, names, trade, made, tradesBut, tradesOf, basisAfter, answerTo, takenOf, summaryOf, reportedOf, rowOf, bookBy, clerkBook}
+use Rattle.clerk.specs.Steps.{Book, lineFound, killFound, linesFor, keeping, summing, rowFound, rowsFor, taking, usingUp, content}
+use Rattle.clerk.specs.Steps.{after}
+use Rattle.clerk.specs.Clerk.{isIn, symbolsIn, sheetFrom, Taken, phaseAfter, Origin, originOf, names, trade, made, tradesBut}
+use Rattle.clerk.specs.Clerk.{tradesOf, basisAfter, answerTo, takenOf, summaryOf, reportedOf, rowOf, bookBy, clerkBook}
 use Rattle.clerk.specs.Arrivals.{play}
 use Rattle.clerk.specs.Claims.{NoRepeat, keysOf}
 use Rattle.clerk.proofs.Passing.{Passed, passed, listable}
-use Rattle.clerk.proofs.Lines.{or-false-left, or-false-right, or-swap, same-refl, same-comm, listed-append, no-repeat-snoc, no-repeat-left, no-repeat-last, up, first-hit, first-miss, borne-is, listed-is-in, named, named-hit, named-miss, named-none, named-append, kill, kill-found}
+use Rattle.clerk.proofs.Lines.{or-false-left, or-false-right, or-swap, same-refl, same-comm, listed-append, no-repeat-snoc}
+use Rattle.clerk.proofs.Lines.{no-repeat-left, no-repeat-last, up, first-hit, first-miss, borne-is, listed-is-in, named, named-hit}
+use Rattle.clerk.proofs.Lines.{named-miss, named-none, named-append, kill, kill-found}
 
 -- ---- the keys of the trades
 
@@ -59,10 +63,12 @@ unfolding tradesBut
 keys-cut later least [] = refl
 keys-cut later least (e ∷ es) =
     map-append (λ (l : Line). l .key) (tradesBut (names (e .message) ++ later) es) (made e es later)
-    ∙ ap₂ {C = List (List ℕ)} (λ a b. a ++ b) (keys-cut (names (e .message) ++ later) (names (e .message) ++ least) es) (made-keys e es later ∙ sym (made-keys e es least))
+    ∙ ap₂ {C = List (List ℕ)} (λ a b. a ++ b) (keys-cut (names (e .message) ++ later) (names (e .message) ++ least) es)
+    (made-keys e es later ∙ sym (made-keys e es least))
     ∙ sym (map-append (λ (l : Line). l .key) (tradesBut (names (e .message) ++ least) es) (made e es least))
 
-pub keys-more : (later : List (List ℕ)) (e : Taken) (es : List Taken) → keysOf (tradesBut later (e ∷ es)) ≡ keysOf (tradesOf es) ++ brings (e .message)
+pub keys-more : (later : List (List ℕ)) (e : Taken) (es : List Taken)
+    → keysOf (tradesBut later (e ∷ es)) ≡ keysOf (tradesOf es) ++ brings (e .message)
 unfolding tradesBut
 keys-more later e es =
     map-append (λ (l : Line). l .key) (tradesBut (names (e .message) ++ later) es) (made e es later)
@@ -84,10 +90,12 @@ lively e o b =
       live = not b;
     }
 
-trade-kill : (key : List ℕ) (e : Taken) (o : Origin) (c d : List (List ℕ)) → isIn (keyIn (e .message)) d ≡ (same key (keyIn (e .message)) || isIn (keyIn (e .message)) c)
+trade-kill : (key : List ℕ) (e : Taken) (o : Origin) (c d : List (List ℕ))
+    → isIn (keyIn (e .message)) d ≡ (same key (keyIn (e .message)) || isIn (keyIn (e .message)) c)
     → trade e o d ≡ kill key (trade e o c)
 unfolding kill
-trade-kill key e o c d h = ap (lively e o) (h ∙ ap (λ (t : Bool). t || there) (same-comm key (keyIn (e .message)))) ∙ go (same (keyIn (e .message)) key)
+trade-kill key e o c d h =
+    ap (lively e o) (h ∙ ap (λ (t : Bool). t || there) (same-comm key (keyIn (e .message)))) ∙ go (same (keyIn (e .message)) key)
   where
     there : Bool
     there = isIn (keyIn (e .message)) c
@@ -96,7 +104,8 @@ trade-kill key e o c d h = ap (lively e o) (h ∙ ap (λ (t : Bool). t || there)
     go true = refl
     go false = refl
 
-made-kill : (key : List ℕ) (e : Taken) (es : List Taken) (c d : List (List ℕ)) → ((x : List ℕ) → isIn x d ≡ (same key x || isIn x c)) → made e es d ≡ map (kill key) (made e es c)
+made-kill : (key : List ℕ) (e : Taken) (es : List Taken) (c d : List (List ℕ))
+    → ((x : List ℕ) → isIn x d ≡ (same key x || isIn x c)) → made e es d ≡ map (kill key) (made e es c)
 made-kill key e es c d h = go (makesIn (e .message))
   where
     o : Origin
@@ -106,11 +115,13 @@ made-kill key e es c d h = go (makesIn (e .message))
     go true = ap {B = List Line} (λ l. l ∷ []) (trade-kill key e o c d (h (keyIn (e .message))))
     go false = refl
 
-cut-more : (key : List ℕ) (c d : List (List ℕ)) (es : List Taken) → ((x : List ℕ) → isIn x d ≡ (same key x || isIn x c)) → tradesBut d es ≡ map (kill key) (tradesBut c es)
+cut-more : (key : List ℕ) (c d : List (List ℕ)) (es : List Taken) → ((x : List ℕ) → isIn x d ≡ (same key x || isIn x c))
+    → tradesBut d es ≡ map (kill key) (tradesBut c es)
 unfolding tradesBut
 cut-more key c d [] h = refl
 cut-more key c d (e ∷ es) h =
-    ap₂ {C = List Line} (λ a b. a ++ b) (cut-more key (names (e .message) ++ c) (names (e .message) ++ d) es more) (made-kill key e es c d h)
+    ap₂ {C = List Line} (λ a b. a ++ b) (cut-more key (names (e .message) ++ c) (names (e .message) ++ d) es more)
+    (made-kill key e es c d h)
     ∙ sym (map-append (kill key) (tradesBut (names (e .message) ++ c) es) (made e es c))
   where
     more : (x : List ℕ) → isIn x (names (e .message) ++ d) ≡ (same key x || isIn x (names (e .message) ++ c))
@@ -122,7 +133,8 @@ cut-more key c d (e ∷ es) h =
         ∙ ap (λ (t : Bool). same key x || t) (sym (listed-append x ns c))
 
 -- an X or a C of a key: what the clerk works out anew is what the book does to its lines
-cut-first : (key : List ℕ) (es : List Taken) → NoRepeat (keysOf (tradesOf es)) → tradesBut (key ∷ []) es ≡ killFound (tradesOf es) (lineWith key (tradesOf es))
+cut-first : (key : List ℕ) (es : List Taken) → NoRepeat (keysOf (tradesOf es))
+    → tradesBut (key ∷ []) es ≡ killFound (tradesOf es) (lineWith key (tradesOf es))
 cut-first key es u = cut-more key [] (key ∷ []) es (λ x. refl) ∙ sym (kill-found key (tradesOf es) u)
 
 -- ---- the place and time that the clerk works out are those of the line that bears the key
@@ -130,12 +142,14 @@ cut-first key es u = cut-more key [] (key ∷ []) es (λ x. refl) ∙ sym (kill-
 abbrev originIn : Line → Origin
 originIn l = record { place = l .place; time = l .time }
 
-origin-none : (e : Taken) (es : List Taken) (key : List ℕ) → (makesIn (e .message) && same (keyIn (e .message)) key) ≡ false → originOf (e ∷ es) key ≡ originOf es key
+origin-none : (e : Taken) (es : List Taken) (key : List ℕ) → (makesIn (e .message) && same (keyIn (e .message)) key) ≡ false
+    → originOf (e ∷ es) key ≡ originOf es key
 unfolding originOf
 origin-none e es key h = rw h
 
 -- the same line, found among one more line
-origin-step : (key : List ℕ) (e : Taken) (es : List Taken) (later : List (List ℕ)) (A : List Line) → NoRepeat (keysOf (A ++ made e es later))
+origin-step : (key : List ℕ) (e : Taken) (es : List Taken) (later : List (List ℕ)) (A : List Line)
+    → NoRepeat (keysOf (A ++ made e es later))
     → originIn (named key A) ≡ originOf es key → originIn (named key (A ++ made e es later)) ≡ originOf (e ∷ es) key
 origin-step key e es later A u i = go (makesIn (e .message)) refl (same (keyIn (e .message)) key) refl
   where
@@ -146,25 +160,30 @@ origin-step key e es later A u i = go (makesIn (e .message)) refl (same (keyIn (
     hit : NoRepeat (keysOf (A ++ (l ∷ []))) → same (l .key) key ≡ true → originIn (named key (A ++ (l ∷ []))) ≡ originOf (e ∷ es) key
     hit v s =
         let q : l .key ≡ key = same-is (l .key) key .0 s in
-        let f : isIn (l .key) (keysOf A) ≡ false = no-repeat-last (keysOf A) (l .key) (rw (map-append (λ (x : Line). x .key) A (l ∷ [])) at v) in
+        let f : isIn (l .key) (keysOf A) ≡ false
+        = no-repeat-last (keysOf A) (l .key) (rw (map-append (λ (x : Line). x .key) A (l ∷ [])) at v) in
         let g : isIn key (keysOf A) ≡ false = ap (λ (k : List ℕ). isIn k (keysOf A)) (sym q) ∙ f in
         ap originIn (named-append key A (l ∷ []) ∙ ap (λ (t : Bool). cond t (named key A) (named key (l ∷ []))) g ∙ named-hit key l [] s)
         ∙ ap (originOf (e ∷ es)) q
 
     -- it bears another
     miss : same (l .key) key ≡ false → named key (A ++ (l ∷ [])) ≡ named key A
-    miss s = named-append key A (l ∷ []) ∙ ap (cond (isIn key (keysOf A)) (named key A)) (named-miss key l [] s) ∙ either (isIn key (keysOf A)) refl
+    miss s =
+        named-append key A (l ∷ []) ∙ ap (cond (isIn key (keysOf A)) (named key A)) (named-miss key l [] s)
+        ∙ either (isIn key (keysOf A)) refl
       where
         either : (t : Bool) → isIn key (keysOf A) ≡ t → cond t (named key A) (named key []) ≡ named key A
         either true t = refl
         either false t = named-none key [] refl ∙ sym (named-none key A t)
 
-    go : (t : Bool) → makesIn (e .message) ≡ t → (s : Bool) → same (keyIn (e .message)) key ≡ s → originIn (named key (A ++ made e es later)) ≡ originOf (e ∷ es) key
+    go : (t : Bool) → makesIn (e .message) ≡ t → (s : Bool) → same (keyIn (e .message)) key ≡ s
+        → originIn (named key (A ++ made e es later)) ≡ originOf (e ∷ es) key
     go true t true s = rw t (hit (rw t at u) s)
     go true t false s = rw t (ap originIn (miss s) ∙ i ∙ sym (origin-none e es key (rw (t, s))))
     go false t s q = rw t (rw append-nil (i ∙ sym (origin-none e es key (rw t))))
 
-origin-is : (key : List ℕ) (later : List (List ℕ)) (es : List Taken) → NoRepeat (keysOf (tradesBut later es)) → originIn (named key (tradesBut later es)) ≡ originOf es key
+origin-is : (key : List ℕ) (later : List (List ℕ)) (es : List Taken) → NoRepeat (keysOf (tradesBut later es))
+    → originIn (named key (tradesBut later es)) ≡ originOf es key
 unfolding tradesBut originOf
 origin-is key later [] u = ap originIn (named-none key [] refl)
 origin-is key later (e ∷ es) u =
@@ -223,7 +242,8 @@ module _ (n : ℕ) (r : Record) (es : List Taken) where
       ∙ length-append (keysOf (tradesOf es)) (brings r)
       ∙ rw (length-map (tradesOf es) (λ (l : Line). l .key)) (go (makesIn r))
     where
-      go : (t : Bool) → length (tradesOf es) + length {A = List ℕ} (cond t (keyIn r ∷ []) []) ≡ cond t (length (tradesOf es) + 1) (length (tradesOf es))
+      go : (t : Bool)
+          → length (tradesOf es) + length {A = List ℕ} (cond t (keyIn r ∷ []) []) ≡ cond t (length (tradesOf es) + 1) (length (tradesOf es))
       go true = refl
       go false = omega arith
 
@@ -243,12 +263,14 @@ row-up change w ws Nothing = refl
 row-up change w ws (At i) = refl
 
 -- one row changed, that of the message's symbol: g and h are what the clerk works out for the rows before and after
-module _ (r : Record) (change : Row → Row) (g h : Listing → Row) (hit : (l : Listing) → same (l .symbol) (r .symbol) ≡ true → change (g l) ≡ h l)
+module _ (r : Record) (change : Row → Row) (g h : Listing → Row)
+(hit : (l : Listing) → same (l .symbol) (r .symbol) ≡ true → change (g l) ≡ h l)
     (miss : (l : Listing) → same (l .symbol) (r .symbol) ≡ false → g l ≡ h l) where
   others : (sheet : List Listing) → isIn (r .symbol) (symbolsIn sheet) ≡ false → map g sheet ≡ map h sheet
   others [] d = refl
   others (l ∷ sheet) d =
-      ap₂ {C = List Row} (λ a b. a ∷ b) (miss l (or-false-left (same (l .symbol) (r .symbol)) _ d)) (others sheet (or-false-right (same (l .symbol) (r .symbol)) _ d))
+      ap₂ {C = List Row} (λ a b. a ∷ b) (miss l (or-false-left (same (l .symbol) (r .symbol)) _ d))
+      (others sheet (or-false-right (same (l .symbol) (r .symbol)) _ d))
 
   row-step : (sheet : List Listing) → NoRepeat (symbolsIn sheet) → rowFound change (map g sheet) (listingOf (r .symbol) sheet) ≡ map h sheet
   unfolding first
@@ -280,12 +302,14 @@ module _ (n : ℕ) (r : Record) (es : List Taken) where
 
   -- one that sets a volume, and is no J, or is one
   reports : summaryIn r ≡ false → setsIn r ≡ true → (l : Listing)
-      → (same (l .symbol) (r .symbol) ≡ true → keeping r (before l) ≡ behind l) × (same (l .symbol) (r .symbol) ≡ false → before l ≡ behind l)
+      → (same (l .symbol) (r .symbol) ≡ true → keeping r (before l) ≡ behind l)
+      × (same (l .symbol) (r .symbol) ≡ false → before l ≡ behind l)
   unfolding rowOf summaryOf reportedOf
   reports j s l = (λ q. rw (j, s, q), λ q. rw (j, s, q))
 
   sums : summaryIn r ≡ true → setsIn r ≡ true → (l : Listing)
-      → (same (l .symbol) (r .symbol) ≡ true → summing r (before l) ≡ behind l) × (same (l .symbol) (r .symbol) ≡ false → before l ≡ behind l)
+      → (same (l .symbol) (r .symbol) ≡ true → summing r (before l) ≡ behind l)
+      × (same (l .symbol) (r .symbol) ≡ false → before l ≡ behind l)
   unfolding rowOf summaryOf reportedOf
   sums j s l = (λ q. rw (j, s, q), λ q. rw (j, s, q))
 
@@ -294,7 +318,8 @@ module _ (n : ℕ) (r : Record) (es : List Taken) where
   rows-step sheet d = go (kindIn r) refl
     where
       in-row : (change : Row → Row) → ((l : Listing)
-          → (same (l .symbol) (r .symbol) ≡ true → change (before l) ≡ behind l) × (same (l .symbol) (r .symbol) ≡ false → before l ≡ behind l))
+          → (same (l .symbol) (r .symbol) ≡ true → change (before l) ≡ behind l)
+          × (same (l .symbol) (r .symbol) ≡ false → before l ≡ behind l))
           → rowFound change (map before sheet) (listingOf (r .symbol) (sheetIn (map before sheet))) ≡ map behind sheet
       in-row change k = rw (sheet-is es sheet) (row-step r change before behind (λ l. k l .0) (λ l. k l .1) sheet d)
 
@@ -322,7 +347,8 @@ module _ (sheet : List Listing) (limit : ℕ) where
       es : List Taken
       es = takenOf sheet limit ms
 
-      go : (t : Bool) → eqb (answerTo sheet limit es m) 0 ≡ t → Took es → Took (cond t (record { number = suc (length ms); message = readOf m .found } ∷ es) es)
+      go : (t : Bool) → eqb (answerTo sheet limit es m) 0 ≡ t → Took es
+          → Took (cond t (record { number = suc (length ms); message = readOf m .found } ∷ es) es)
       go true t i = (passed (basisAfter sheet limit es) (readOf m) (eqb-true (answerTo sheet limit es m) 0 t), i)
       go false t i = i
 
@@ -332,8 +358,10 @@ module _ (sheet : List Listing) (limit : ℕ) where
   unique [] w = tt
   unique (e ∷ es) w = rw (keys-more [] e es) (go (makesIn (e .message)) refl (unique es (w .1)))
     where
-      go : (t : Bool) → makesIn (e .message) ≡ t → NoRepeat (keysOf (tradesOf es)) → NoRepeat (keysOf (tradesOf es) ++ cond t (keyIn (e .message) ∷ []) [])
-      go true t u = no-repeat-snoc (keysOf (tradesOf es)) (keyIn (e .message)) u (sym (borne-is (keyIn (e .message)) (tradesOf es)) ∙ w .0 .isNew t)
+      go : (t : Bool) → makesIn (e .message) ≡ t → NoRepeat (keysOf (tradesOf es))
+          → NoRepeat (keysOf (tradesOf es) ++ cond t (keyIn (e .message) ∷ []) [])
+      go true t u =
+          no-repeat-snoc (keysOf (tradesOf es)) (keyIn (e .message)) u (sym (borne-is (keyIn (e .message)) (tradesOf es)) ∙ w .0 .isNew t)
       go false t u = rw append-nil u
 
   pub one-trade-per-key : (ms : List (List ℕ)) → NoRepeat (keysOf (tradesOf (takenOf sheet limit ms)))
@@ -344,7 +372,8 @@ module _ (sheet : List Listing) (limit : ℕ) where
   pub content-is : (es : List Taken) (n : ℕ) (m : List ℕ) → content limit (bookBy sheet es n) m ≡ answerTo sheet limit es m
   unfolding content bookBy
   content-is es n m =
-      ap (λ (x : List Listing). given (contentTable (record { phase = phaseAfter es; sheet = x; ledger = searched (tradesOf es) limit }) (readOf m)) .number) (sheet-is es sheet)
+      ap (λ (x : List Listing). given (contentTable
+      (record { phase = phaseAfter es; sheet = x; ledger = searched (tradesOf es) limit }) (readOf m)) .number) (sheet-is es sheet)
 
   module _ (d : NoRepeat (symbolsIn sheet)) (es : List Taken) (n : ℕ) (m : List ℕ) (u : NoRepeat (keysOf (tradesOf es))) where
     abbrev more : List Taken
@@ -354,23 +383,27 @@ module _ (sheet : List Listing) (limit : ℕ) where
     unfolding taking bookBy
     taking-is =
         let r = readOf m .found in
-        rw (phase-step (suc n) r es, rows-step (suc n) r es sheet d, lines-step (suc n) r es u, add-one (suc n), add-one (length es), sym (lines-count (suc n) r es))
+        rw (phase-step (suc n) r es, rows-step (suc n) r es sheet d, lines-step (suc n) r es u, add-one (suc n),
+        add-one (length es), sym (lines-count (suc n) r es))
 
     after-is : after limit (bookBy sheet es n) m ≡ bookBy sheet (cond (eqb (answerTo sheet limit es m) 0) more es) (suc n)
     unfolding after usingUp bookBy
     after-is = rw (content-is es n m) (go (eqb (answerTo sheet limit es m) 0))
       where
-        go : (t : Bool) → cond t (taking (readOf m .found) (bookBy sheet es n)) (usingUp (bookBy sheet es n)) ≡ bookBy sheet (cond t more es) (suc n)
+        go : (t : Bool)
+            → cond t (taking (readOf m .found) (bookBy sheet es n)) (usingUp (bookBy sheet es n)) ≡ bookBy sheet (cond t more es) (suc n)
         go true = taking-is
         go false = rw (add-one (suc n))
 
   -- his book after one more used message is what the step makes of his book before it
-  pub clerk-after : NoRepeat (symbolsIn sheet) → (ms : List (List ℕ)) (m : List ℕ) → after limit (clerkBook sheet limit ms) m ≡ clerkBook sheet limit (m ∷ ms)
+  pub clerk-after : NoRepeat (symbolsIn sheet) → (ms : List (List ℕ)) (m : List ℕ)
+      → after limit (clerkBook sheet limit ms) m ≡ clerkBook sheet limit (m ∷ ms)
   unfolding clerkBook takenOf
   clerk-after d ms m = after-is d (takenOf sheet limit ms) (length ms) m (one-trade-per-key ms)
 
   -- the book after any used messages is the clerk's
-  plays : NoRepeat (symbolsIn sheet) → (b : Book) → b ≡ clerkBook sheet limit [] → (ms : List (List ℕ)) → play limit b ms ≡ clerkBook sheet limit ms
+  plays : NoRepeat (symbolsIn sheet) → (b : Book) → b ≡ clerkBook sheet limit [] → (ms : List (List ℕ))
+      → play limit b ms ≡ clerkBook sheet limit ms
   unfolding play
   plays d b e [] = e
   plays d b e (m ∷ ms) = ap (λ (x : Book). after limit x m) (plays d b e ms) ∙ clerk-after d ms m
@@ -394,7 +427,8 @@ pub listed-is : (sheet : List Listing) (limit : ℕ) → listedBook sheet ≡ cl
 unfolding clerkBook takenOf bookBy rowOf phaseAfter tradesBut summaryOf reportedOf
 listed-is sheet limit = refl
 
-pub book-is-clerks : (sheet : List Listing) (limit : ℕ) → NoRepeat (symbolsIn sheet) → (ms : List (List ℕ)) → play limit (listedBook sheet) ms ≡ clerkBook sheet limit ms
+pub book-is-clerks : (sheet : List Listing) (limit : ℕ) → NoRepeat (symbolsIn sheet) → (ms : List (List ℕ))
+    → play limit (listedBook sheet) ms ≡ clerkBook sheet limit ms
 book-is-clerks sheet limit d ms = plays sheet limit d (listedBook sheet) (listed-is sheet limit) ms
 
 -- ---- no symbol is on a sheet twice
@@ -410,5 +444,6 @@ sheet-once limit sheet (l ∷ ls) d = sheet-once limit (cond (eqb told 0) (sheet
     go : (t : Bool) → eqb told 0 ≡ t → NoRepeat (symbolsIn (cond t (sheet ++ (l ∷ [])) sheet))
     go true t =
         rw (map-append (λ (x : Listing). x .symbol) sheet (l ∷ []))
-        (no-repeat-snoc (symbolsIn sheet) (l .symbol) d (sym (listed-is-in (l .symbol) sheet) ∙ listable 1 sheet limit l (eqb-true told 0 t) .isNew))
+        (no-repeat-snoc (symbolsIn sheet) (l .symbol) d
+        (sym (listed-is-in (l .symbol) sheet) ∙ listable 1 sheet limit l (eqb-true told 0 t) .isNew))
     go false t = d

@@ -96,14 +96,16 @@ module _ (c : Counters) (h : Small c) where
   taken-is : (r : Record) → takenBy (kindIn r) (r .event) c ≡ moved r c
   unfolding takenBy
   taken-is r =
-      rw (up-is (c .wanted) (omega (arith, h .wanted)), up-is (c .taken) (omega (arith, h .taken)), up-is (c .lines) (omega (arith, h .lines)))
+      rw (up-is (c .wanted) (omega (arith, h .wanted)), up-is (c .taken) (omega (arith, h .taken)),
+      up-is (c .lines) (omega (arith, h .lines)))
       (go (kindIn r))
     where
       with-phase : ℕ → ℕ → Counters
       with-phase phase lines = record { wanted = c .wanted + 1; phase = phase; rows = c .rows; lines = lines; taken = c .taken + 1 }
 
       go : (k : Kind)
-          → cond (isEvent k) (with-phase (phaseOf (r .event)) (c .lines)) (cond (makesNew k) (with-phase (c .phase) (c .lines + 1)) (with-phase (c .phase) (c .lines)))
+          → cond (isEvent k) (with-phase (phaseOf (r .event)) (c .lines))
+          (cond (makesNew k) (with-phase (c .phase) (c .lines + 1)) (with-phase (c .phase) (c .lines)))
           ≡ with-phase (cond (isEvent k) (phaseOf (r .event)) (c .phase)) (cond (makesNew k) (c .lines + 1) (c .lines))
       go Event = refl
       go Trade = refl
@@ -114,7 +116,8 @@ module _ (c : Counters) (h : Small c) where
 
 -- ---- a taken message: the lines
 
-module _ (m : List ℕ) (used n : ℕ) (r : Record) (fits : RecordFits r) (small : n < 2 ^ 32) (bytes : Bytes m) (within : used ≤ lineLimit (length m)) where
+module _ (m : List ℕ) (used n : ℕ) (r : Record) (fits : RecordFits r) (small : n < 2 ^ 32) (bytes : Bytes m)
+(within : used ≤ lineLimit (length m)) where
   abbrev old : List Line
   old = usedLines m used
 
@@ -138,20 +141,23 @@ module _ (m : List ℕ) (used n : ℕ) (r : Record) (fits : RecordFits r) (small
     line-corrected room =
         let e = used-lines-length m used in
         let d : length (withDead m i) ≡ length m = dead-length m i in
-        let l : correctedLine (lineIn m i) r ≡ correctedLine (getD old i noLine) r = ap (λ (x : Line). correctedLine x r) (sym (line-in m used i below)) in
+        let l : correctedLine (lineIn m i) r ≡ correctedLine (getD old i noLine) r
+        = ap (λ (x : Line). correctedLine x r) (sym (line-in m used i below)) in
         let less : used < lineLimit (length (withDead m i)) = rw d (omega arith) in
         rw (add-one used, lines-put (withDead m i) used (correctedLine (lineIn m i) r) (corrected-fits r fits m i bytes) less, line-dead, l)
 
   -- what the message does to the lent lines, and to the lines
   lines-taken : (makesIn r ≡ true → length old < lineLimit (length m)) → (namesIn r ≡ true → isFound (lineWith (oldKey r) old) ≡ true)
-      → usedLines (linesBy (kindIn r) m used n r (indexOf (lineWith (oldKey r) old))) (cond (makesIn r) (used + 1) used) ≡ linesFor (kindIn r) n r old
+      → usedLines (linesBy (kindIn r) m used n r (indexOf (lineWith (oldKey r) old))) (cond (makesIn r) (used + 1) used)
+      ≡ linesFor (kindIn r) n r old
   unfolding linesBy linesFor
   lines-taken room borne = go (kindIn r) room borne
     where
       named : isFound (lineWith (oldKey r) old) ≡ true → (i : ℕ) × (lineWith (oldKey r) old ≡ At i)
       named h = there (lineWith (oldKey r) old) h
 
-      go : (k : Kind) → (makesNew k ≡ true → length old < lineLimit (length m)) → (namesOld k ≡ true → isFound (lineWith (oldKey r) old) ≡ true)
+      go : (k : Kind) → (makesNew k ≡ true → length old < lineLimit (length m))
+          → (namesOld k ≡ true → isFound (lineWith (oldKey r) old) ≡ true)
           → usedLines (linesBy k m used n r (indexOf (lineWith (oldKey r) old))) (cond (makesNew k) (used + 1) used) ≡ linesFor k n r old
       go Event room borne = refl
       go Trade room borne = line-made (room refl)
@@ -176,7 +182,8 @@ module _ (m : List ℕ) (used : ℕ) (r : Record) (fits : RecordFits r) where
     row-reported = rows-report m used i (r .consolidated) (fits .consolidated) below-row
 
     -- J
-    row-summed : usedRows (withReport (withSummary m i (r .high) (r .low)) i (r .consolidated)) used ≡ set olds i (summing r (getD olds i noRow))
+    row-summed : usedRows (withReport (withSummary m i (r .high) (r .low)) i (r .consolidated)) used
+        ≡ set olds i (summing r (getD olds i noRow))
     row-summed =
         let w = withSummary m i (r .high) (r .low) in
         let same : length w ≡ length m = row-length m i atSummary _ in
@@ -267,8 +274,11 @@ module _ (s : State) (a : Arrival) (safe : soundIn s ≡ true) where
       go true t = used (eqb (content limit b (a .message)) 0) refl (eqb-true number 0 t)
       go false t =
           let g = sound-gives (s .counters) (length (s .rows)) (length (s .lines)) safe in
-          let no : Wanted true (wantedIn s) (a .number) → ⊥ = λ w. eqb-false number 0 t (number-wanted true (wantedIn s) (a .number) .1 w) in
-          let u = refused-keeps s .unused a (λ h w f. no (record { sound = refl; wanted = w; least = omega (arith, g .least, w); greatest = f })) in
+          let no : Wanted true (wantedIn s) (a .number) → ⊥
+          = λ w. eqb-false number 0 t (number-wanted true (wantedIn s) (a .number) .1 w) in
+          let u
+          = refused-keeps s .unused a (λ h w f. no (record { sound = refl; wanted = w; least = omega
+          (arith, g .least, w); greatest = f })) in
           left (u .1) (rw t)
 
 -- ---- the calls as steps
@@ -292,7 +302,9 @@ module _ (s : State) (safe : soundIn s ≡ true) where
   took-step m bl bm f p =
       let r = readOf m .found in
       let fits = read-fits m bm in
-      let l = lines-taken (s .lines) (s .counters .lines) (wantedIn s) r fits (omega (arith, f)) bl (bounds .linesFit) (p .hasRoom) (p .isBorne) in
+      let l
+      = lines-taken (s .lines) (s .counters .lines) (wantedIn s) r fits (omega (arith, f)) bl (bounds .linesFit) (p .hasRoom)
+      (p .isBorne) in
       let o = rows-taken (s .rows) (s .counters .rows) r fits (p .onSheet) in
       rw (taken-is (s .counters) small r, l, o)
 
@@ -351,12 +363,14 @@ module _ (s : State) (safe : soundIn s ≡ true) where
 within-sound : (c : Counters) (rows lines : ℕ) → Within c rows lines → sound c rows lines ≡ true
 unfolding sound
 within-sound c rows lines w =
-    rw (le-leb _ _ (w .least), le-leb _ _ (w .greatest), le-leb _ _ (w .rowsFit), le-leb _ _ (w .linesFit), le-leb _ _ (w .phased), le-leb _ _ (w .takenFit))
+    rw (le-leb _ _ (w .least), le-leb _ _ (w .greatest), le-leb _ _ (w .rowsFit), le-leb _ _ (w .linesFit), le-leb _ _ (w .phased),
+    le-leb _ _ (w .takenFit))
 
 pub fresh-sound : (rows lines : ℕ) → sound freshCounters rows lines ≡ true
 fresh-sound rows lines =
     within-sound freshCounters rows lines
-    (record { least = omega arith; greatest = omega arith; rowsFit = omega arith; linesFit = omega arith; phased = omega arith; takenFit = omega arith })
+    (record { least = omega arith; greatest = omega arith; rowsFit = omega arith; linesFit = omega arith; phased = omega arith;
+    takenFit = omega arith })
 
 either-fits : (t : Bool) (a b n : ℕ) → (t ≡ true → a ≤ n) → b ≤ n → cond t a b ≤ n
 either-fits true a b n f g = f refl
@@ -380,7 +394,8 @@ module _ (s : State) (safe : soundIn s ≡ true) where
   L = length (s .lines)
 
   -- taken: there is room for the line
-  moved-sound : (r : Record) → wantedIn s ≤ lastNumber → (makesIn r ≡ true → length (linesIn s) < lineLimit L) → sound (moved r (s .counters)) R L ≡ true
+  moved-sound : (r : Record) → wantedIn s ≤ lastNumber → (makesIn r ≡ true → length (linesIn s) < lineLimit L)
+      → sound (moved r (s .counters)) R L ≡ true
   moved-sound r f room =
       let c = s .counters in
       let w = bounds s safe in
@@ -400,7 +415,8 @@ module _ (s : State) (safe : soundIn s ≡ true) where
       let w = bounds s safe in
       rw (used-up-is (s .counters) (small s safe))
       (within-sound _ R L
-      (record { least = omega arith; greatest = omega arith; rowsFit = w .rowsFit; linesFit = w .linesFit; phased = w .phased; takenFit = omega arith }))
+      (record { least = omega arith; greatest = omega arith; rowsFit = w .rowsFit; linesFit = w .linesFit; phased = w .phased;
+      takenFit = omega arith }))
 
   pub deliver-sound : (a : Arrival) → soundIn (delivered s a .state) ≡ true
   deliver-sound a = rw (touches-only s .rowsLength a, touches-only s .linesLength a) (go (ended s a safe))
@@ -423,7 +439,8 @@ module _ (s : State) (safe : soundIn s ≡ true) where
           let room = list-room s safe l (eqb-true _ 0 t) in
           rw (one-row-is (s .counters) (small s safe))
           (within-sound _ R L
-          (record { least = w .least; greatest = w .greatest; rowsFit = omega arith; linesFit = w .linesFit; phased = w .phased; takenFit = w .takenFit }))
+          (record { least = w .least; greatest = w .greatest; rowsFit = omega arith; linesFit = w .linesFit; phased = w .phased;
+          takenFit = w .takenFit }))
       go l false t = safe
 
       kept : (l : Listing) → sound (listed s l .state .counters) R L ≡ true

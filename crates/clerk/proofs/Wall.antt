@@ -45,7 +45,8 @@ found-up w ws (At i) = refl
 -- ---- a listed symbol
 
 -- a symbol that differs from each of a sheet's differs from that of each listing on it
-other-symbol : (k : List ℕ) (sheet : List Listing) (l : Listing) → isIn k (symbolsIn sheet) ≡ false → List·Memᴰ l sheet → same (l .symbol) k ≡ false
+other-symbol : (k : List ℕ) (sheet : List Listing) (l : Listing) → isIn k (symbolsIn sheet) ≡ false → List·Memᴰ l sheet
+    → same (l .symbol) k ≡ false
 other-symbol k [] l h m = absurd (List·Memᴰ·not-nil m)
 other-symbol k (x ∷ sheet) l h m =
     ⊎-elim (λ (q : l ≡ x). ap (λ (y : Listing). same (y .symbol) k) q ∙ or-false-left (same (x .symbol) k) _ h)
@@ -60,12 +61,14 @@ on-sheet sheet l m = go (isIn (l .symbol) (symbolsIn sheet)) refl
     go false t = absurd (true≢false (sym (same-refl (l .symbol)) ∙ other-symbol (l .symbol) sheet l t m))
 
 -- and a symbol that is listed is that of a listing
-pub of-sheet : (symbol : List ℕ) (sheet : List Listing) → isIn symbol (symbolsIn sheet) ≡ true → (x : Listing) × List·Memᴰ x sheet × (symbol ≡ x .symbol)
+pub of-sheet : (symbol : List ℕ) (sheet : List Listing) → isIn symbol (symbolsIn sheet) ≡ true
+    → (x : Listing) × List·Memᴰ x sheet × (symbol ≡ x .symbol)
 of-sheet symbol [] h = absurd (true≢false (sym h))
 of-sheet symbol (x ∷ sheet) h = go (same (x .symbol) symbol) refl h (λ q. of-sheet symbol sheet q)
   where
     go : (t : Bool) → same (x .symbol) symbol ≡ t → (t || isIn symbol (symbolsIn sheet)) ≡ true
-        → (isIn symbol (symbolsIn sheet) ≡ true → (y : Listing) × List·Memᴰ y sheet × (symbol ≡ y .symbol)) → (y : Listing) × List·Memᴰ y (x ∷ sheet) × (symbol ≡ y .symbol)
+        → (isIn symbol (symbolsIn sheet) ≡ true → (y : Listing) × List·Memᴰ y sheet × (symbol ≡ y .symbol))
+        → (y : Listing) × List·Memᴰ y (x ∷ sheet) × (symbol ≡ y .symbol)
     go true t h f = (x, List·Memᴰ·head refl, sym (same-is (x .symbol) symbol .0 t))
     go false t h f = let q = f h in (q .0, List·Memᴰ·tail (q .1), q .2)
 
@@ -90,7 +93,8 @@ found-row es (x ∷ sheet) l d m =
         → rowFound (rowOf es x ∷ ws) (listingOf (l .symbol) (x ∷ sheet)) ≡ rowOf es l
     there t i =
         let e : same (x .symbol) (l .symbol) ≡ false = same-comm (x .symbol) (l .symbol) ∙ other-symbol (x .symbol) sheet l (d .0) t in
-        ap (rowFound (rowOf es x ∷ ws)) (first-miss (isOf (l .symbol)) x sheet e) ∙ found-up (rowOf es x) ws (listingOf (l .symbol) sheet) ∙ i
+        ap (rowFound (rowOf es x ∷ ws)) (first-miss (isOf (l .symbol)) x sheet e)
+        ∙ found-up (rowOf es x) ws (listingOf (l .symbol) sheet) ∙ i
 
 -- ---- what is told
 
@@ -114,7 +118,8 @@ module _ (s : State) (safe : soundIn s ≡ true) (sheet : List Listing) (es : Li
       go false true q = absurd (true≢false (sym q))
       go false false q = refl
 
-  pub row-shown : NoRepeat (symbolsIn sheet) → (l : Listing) → List·Memᴰ l sheet → shown s (l .symbol) ≡ record { answer = answerOf 0; row = shownBy es l }
+  pub row-shown : NoRepeat (symbolsIn sheet) → (l : Listing) → List·Memᴰ l sheet
+      → shown s (l .symbol) ≡ record { answer = answerOf 0; row = shownBy es l }
   unfolding shown
   row-shown d l m =
       let z : rowAnswer s (l .symbol) ≡ 0 = answer-is (l .symbol) true (on-sheet sheet l m) in
@@ -129,10 +134,12 @@ module _ (s : State) (safe : soundIn s ≡ true) (sheet : List Listing) (es : Li
           ∙ ap (λ (x : List Listing). rowFound (rowsIn s) (listingOf (l .symbol) x)) the-sheet
           ∙ ap (λ (x : List Row). rowFound x (listingOf (l .symbol) sheet)) theRows
           ∙ found-row es sheet l d m in
-          let a : Are (l .symbol) (tradesOf es) (q .figures) = subst (λ (x : List Line). Are (l .symbol) x (q .figures)) theLines (q .mean) in
+          let a : Are (l .symbol) (tradesOf es) (q .figures)
+          = subst (λ (x : List Line). Are (l .symbol) x (q .figures)) theLines (q .mean) in
           ap (λ (x : Row). shownOf x (q .figures)) w ∙ sym (clerk-figures-one es l (q .figures) a)
 
-  pub row-missing : (symbol : List ℕ) → isIn symbol (symbolsIn sheet) ≡ false → shown s symbol ≡ record { answer = answerOf 7; row = nothingShown }
+  pub row-missing : (symbol : List ℕ) → isIn symbol (symbolsIn sheet) ≡ false
+      → shown s symbol ≡ record { answer = answerOf 7; row = nothingShown }
   unfolding shown
   row-missing symbol h =
       let z : rowAnswer s symbol ≡ 7 = answer-is symbol false h in

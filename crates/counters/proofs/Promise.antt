@@ -15,11 +15,13 @@ use Rattle.counters.proofs.Counters.add_line.Reads as add-line-reads
 use Rattle.counters.proofs.Counters.take.Reads as take-reads
 use Rattle.counters.proofs.Counters.is_sound.Reads as is-sound-reads
 
-pub phase-of-one : (e e₁ e₂ : ℕ) (p p′ : ℕ) → phase-of-reads.Learnt tt (e, tt) p (e₁, tt) → phase-of-reads.Learnt tt (e, tt) p′ (e₂, tt) → p ≡ p′
+pub phase-of-one : (e e₁ e₂ : ℕ) (p p′ : ℕ) → phase-of-reads.Learnt tt (e, tt) p (e₁, tt)
+    → phase-of-reads.Learnt tt (e, tt) p′ (e₂, tt) → p ≡ p′
 phase-of-one e e₁ e₂ p p′ h h′ = h ∙ sym h′
 
 pub is-due-one : (p p₁ p₂ : ℕ) (k k₁ k₂ : Kind) (e e₁ e₂ : ℕ) (b b′ : Bool)
-    → is-due-reads.Learnt tt (p, (k, (e, tt))) b (p₁, (k₁, (e₁, tt))) → is-due-reads.Learnt tt (p, (k, (e, tt))) b′ (p₂, (k₂, (e₂, tt))) → b ≡ b′
+    → is-due-reads.Learnt tt (p, (k, (e, tt))) b (p₁, (k₁, (e₁, tt)))
+    → is-due-reads.Learnt tt (p, (k, (e, tt))) b′ (p₂, (k₂, (e₂, tt))) → b ≡ b′
 is-due-one p p₁ p₂ k k₁ k₂ e e₁ e₂ b b′ h h′ = h ∙ sym h′
 
 module _ (c c₁ c₂ : Counters) (r r′ : Counters) where
@@ -35,13 +37,16 @@ module _ (c c₁ c₂ : Counters) (r r′ : Counters) where
   pub add-line-one : add-line-reads.Learnt tt (c, tt) r (c₁, tt) → add-line-reads.Learnt tt (c, tt) r′ (c₂, tt) → r ≡ r′
   add-line-one h h′ = h ∙ sym h′
 
-  pub advance-one : (p p₁ p₂ : ℕ) → advance-reads.Learnt tt (c, (p, tt)) r (c₁, (p₁, tt)) → advance-reads.Learnt tt (c, (p, tt)) r′ (c₂, (p₂, tt)) → r ≡ r′
+  pub advance-one : (p p₁ p₂ : ℕ) → advance-reads.Learnt tt (c, (p, tt)) r (c₁, (p₁, tt))
+      → advance-reads.Learnt tt (c, (p, tt)) r′ (c₂, (p₂, tt)) → r ≡ r′
   advance-one p p₁ p₂ h h′ = h ∙ sym h′
 
   pub take-one : (k k₁ k₂ : Kind) (e e₁ e₂ : ℕ)
-      → take-reads.Learnt tt (c, (k, (e, tt))) r (c₁, (k₁, (e₁, tt))) → take-reads.Learnt tt (c, (k, (e, tt))) r′ (c₂, (k₂, (e₂, tt))) → r ≡ r′
+      → take-reads.Learnt tt (c, (k, (e, tt))) r (c₁, (k₁, (e₁, tt)))
+      → take-reads.Learnt tt (c, (k, (e, tt))) r′ (c₂, (k₂, (e₂, tt))) → r ≡ r′
   take-one k k₁ k₂ e e₁ e₂ h h′ = h ∙ sym h′
 
 pub is-sound-one : (c c₁ c₂ : Counters) (m m₁ m₂ n n₁ n₂ : ℕ) (b b′ : Bool)
-    → is-sound-reads.Learnt tt (c, (m, (n, tt))) b (c₁, (m₁, (n₁, tt))) → is-sound-reads.Learnt tt (c, (m, (n, tt))) b′ (c₂, (m₂, (n₂, tt))) → b ≡ b′
+    → is-sound-reads.Learnt tt (c, (m, (n, tt))) b (c₁, (m₁, (n₁, tt)))
+    → is-sound-reads.Learnt tt (c, (m, (n, tt))) b′ (c₂, (m₂, (n₂, tt))) → b ≡ b′
 is-sound-one c c₁ c₂ m m₁ m₂ n n₁ n₂ b b′ h h′ = h ∙ sym h′

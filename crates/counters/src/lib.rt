@@ -1,4 +1,5 @@
-// The counters of a book: what moves together as one value. Each move returns the new value; whatever counters arrive, it is total.
+// The counters of a book: what moves together as one value. Each move returns the new value; whatever counters
+// arrive, it is total.
 use kinds::Kind;
 use kinds::is_event;
 use kinds::makes_new;
@@ -7,8 +8,8 @@ ghost use mathlib.Core.Path.{_≡_};
 ghost use Rattle.counters.specs.Counting as Counting;
 ghost use Rattle.counters.specs.Phases as Phases;
 
-// The wanted number, the phase, and the counts: rows used, lines used, messages taken. The phase is 0 before any event was taken, then
-// 1 to 6 for O S Q M E C.
+// The wanted number, the phase, and the counts: rows used, lines used, messages taken. The phase is 0 before any
+// event was taken, then 1 to 6 for O S Q M E C.
 pub struct Counters {
     pub wanted: u64,
     pub phase: u64,
@@ -38,7 +39,8 @@ pub fn phase_of(event: u8) -> u64
     }
 }
 
-// Whether a message of a type is due: an event that comes later than the last one taken, any other between the first event and C.
+// Whether a message of a type is due: an event that comes later than the last one taken, any other between the first
+// event and C.
 pub fn is_due(phase: u64, kind: Kind, event: u8) -> bool
     ensures { λ r. ⌜ r ≡ Phases.due phase kind event ⌝ }
 {

@@ -12,6 +12,7 @@ use Rattle.octets.proofs.Laws.{sets-all}
 use Rattle.octets.proofs.Trips.{whole}
 use Rattle.records.specs.declared.Record.{Record}
 use Rattle.lines.specs.declared.Line.{Line}
+use Rattle.lines.specs.Cell.{keyLength}
 use Rattle.keys.specs.Keys.{matches}
 
 -- ---- keys
@@ -21,13 +22,14 @@ sets-past x l [] n = refl
 sets-past x l (v ∷ vs) n = sets-past x (set l n v) vs (suc n)
 
 pub key-made : (centre : ℕ) (control : List ℕ) → length control ≡ 10
-    → sets (set (replicate 11 0) 0 centre) 1 control ≡ centre ∷ control
+    → sets (set (replicate keyLength 0) 0 centre) 1 control ≡ centre ∷ control
 key-made centre control e =
     sets-past centre (replicate 10 0) control 0 ∙ ap (λ (l : List ℕ). centre ∷ l) (sets-all (replicate 10 0) control e)
 
 -- ---- trades compared
 
-pub match-is : (r : Record) (l : Line) → length (r .symbol) ≡ 8 → length (r .sale .condition) ≡ 4 → length (l .symbol) ≡ 8 → length (l .condition) ≡ 4
+pub match-is : (r : Record) (l : Line) → length (r .symbol) ≡ 8 → length (r .sale .condition) ≡ 4 → length (l .symbol) ≡ 8
+    → length (l .condition) ≡ 4
     → (((same (part (l .symbol) 0 (length (r .symbol))) (r .symbol) && eqb (l .price) (r .sale .price)) && eqb (l .size) (r .sale .size))
     && same (part (l .condition) 0 (length (r .sale .condition))) (r .sale .condition)) ≡ matches r l
 unfolding matches

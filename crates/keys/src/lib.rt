@@ -10,17 +10,17 @@ ghost use mathlib.Core.List.{_∷_};
 ghost use Rattle.keys.specs.Keys as Keys;
 
 // The key of a trade: the centre and the control.
-fn key_of(centre: u8, control: [u8; 10]) -> [u8; 11]
+fn key_of(centre: u8, control: [u8; 10]) -> [u8; lines::KEY]
     ensures { λ r. ⌜ r ≡ centre ∷ control ⌝ }
 {
-    let mut key = [0u8; 11];
+    let mut key = [0u8; lines::KEY];
     run::put_byte(&mut key, 0, centre);
     run::paste(&mut key, 1, &control);
     key
 }
 
 // The key of the original that X and C name, and of T's own trade.
-pub fn old_key(r: Record) -> [u8; 11]
+pub fn old_key(r: Record) -> [u8; lines::KEY]
     ensures { λ k. ⌜ k ≡ Keys.oldKey r ⌝ }
 {
     let original = r.sale;
@@ -36,7 +36,7 @@ fn new_sale(kind: Kind, r: Record) -> Sale
 }
 
 // The key of the line that T and C make.
-pub fn new_key(kind: Kind, r: Record) -> [u8; 11]
+pub fn new_key(kind: Kind, r: Record) -> [u8; lines::KEY]
     ensures { λ k. ⌜ k ≡ Keys.newKey kind r ⌝ }
 {
     let sale = new_sale(kind, r);

@@ -36,5 +36,6 @@ module _ (kind kind₁ kind₂ : Kind) (b b′ : Bool) where
   pub makes-new-one : makes-new-reads.Learnt tt (kind, tt) b (kind₁, tt) → makes-new-reads.Learnt tt (kind, tt) b′ (kind₂, tt) → b ≡ b′
   makes-new-one h h′ = h ∙ sym h′
 
-  pub is-correction-one : is-correction-reads.Learnt tt (kind, tt) b (kind₁, tt) → is-correction-reads.Learnt tt (kind, tt) b′ (kind₂, tt) → b ≡ b′
+  pub is-correction-one : is-correction-reads.Learnt tt (kind, tt) b (kind₁, tt)
+      → is-correction-reads.Learnt tt (kind, tt) b′ (kind₂, tt) → b ≡ b′
   is-correction-one h h′ = h ∙ sym h′

@@ -8,6 +8,7 @@ use Rattle.octets.specs.Run.{Bytes}
 use Rattle.octets.proofs.Bytes.{either-way, none-bytes, cons-bytes, append-bytes, set-bytes, sets-bytes}
 use Rattle.numbers.specs.Number.{digits}
 use Rattle.numbers.proofs.Bytes.{digits-bytes}
+use Rattle.lines.specs.Cell.{lineCell, atLive}
 use Rattle.lines.specs.declared.Line.{Line}
 use Rattle.lines.specs.Lines.{lineLimit, lineBytes, mark, withLine, withDead}
 
@@ -25,8 +26,8 @@ line-bytes l k s c =
 
 pub with-line-bytes : (m : List ℕ) (i : ℕ) (l : Line) → Bytes m → Bytes (lineBytes l) → Bytes (withLine m i l)
 unfolding withLine
-with-line-bytes m i l b h = either-way Bytes (ltb i (lineLimit (length m))) _ m (sets-bytes (lineBytes l) m (i * 40) h b) b
+with-line-bytes m i l b h = either-way Bytes (ltb i (lineLimit (length m))) _ m (sets-bytes (lineBytes l) m (i * lineCell) h b) b
 
 pub with-dead-bytes : (m : List ℕ) (i : ℕ) → Bytes m → Bytes (withDead m i)
 unfolding withDead
-with-dead-bytes m i b = either-way Bytes (ltb i (lineLimit (length m))) _ m (set-bytes m (i * 40 + 39) 0 (lit< tt) b) b
+with-dead-bytes m i b = either-way Bytes (ltb i (lineLimit (length m))) _ m (set-bytes m (i * lineCell + atLive) 0 (lit< tt) b) b

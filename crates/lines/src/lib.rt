@@ -1,16 +1,17 @@
-// Lines: one cell of 40 bytes for each trade.
+// Lines: one cell of bytes for each trade.
 use cells::Found;
 use numbers::lesser;
 ghost use mathlib.Core.Path.{_≡_};
 ghost use Prim.Native.Nat.{_+_, _*_, _≤_};
 ghost use lib.ListN.{length};
 ghost use lib.Seq.{sets};
+ghost use Rattle.lines.specs.Cell.{lineCell};
 ghost use Rattle.lines.specs.Lines.{lineFrom, lineBytes, mark, noLine, lineLimit, usedLines};
 ghost use Rattle.lines.specs.Lines.{lineWith, lineIn, withLine, withDead};
 
 // The key is the centre and the control. `place` is the number of the message that first made the trade.
 pub struct Line {
-    pub key: [u8; 11],
+    pub key: [u8; KEY],
     pub symbol: [u8; 8],
     pub price: u32,
     pub size: u32,
@@ -21,12 +22,15 @@ pub struct Line {
 }
 
 // At most this many lines, however long the room.
-const CAP: usize = 65536;
+pub const CAP: usize = 65536;
+
+// A key is the centre, one byte, and the control, ten.
+pub const KEY: usize = 11;
 
 // The cell, and where each field stands in it; the key stands first.
 pub const CELL: usize = 40;
 
-pub const SYMBOL: usize = 11;
+pub const SYMBOL: usize = KEY;
 
 pub const PRICE: usize = 19;
 
@@ -48,7 +52,7 @@ pub fn limit(room: usize) -> usize
 }
 
 // The first used line that bears the key.
-pub fn find(lines: &[u8], used: usize, key: [u8; 11]) -> Found
+pub fn find(lines: &[u8], used: usize, key: [u8; KEY]) -> Found
     ensures { λ r. ⌜ r ≡ lineWith key (usedLines (now (lines .entry)) used) ⌝ }
 {
     let n = lesser(used, limit(lines.len()));
@@ -59,7 +63,7 @@ pub fn find(lines: &[u8], used: usize, key: [u8; 11]) -> Found
         }
         let mut j: usize = 0;
         'bytes: loop {
-            if j == 11 {
+            if j == KEY {
                 break 'lines Found::At(i);
             }
             if lines[i * CELL + j] != key[j] {
@@ -76,7 +80,7 @@ fn no_line() -> Line
     ensures { λ r. ⌜ r ≡ noLine ⌝ }
 {
     Line {
-        key: [0u8; 11],
+        key: [0u8; KEY],
         symbol: [0u8; 8],
         price: 0,
         size: 0,
@@ -89,10 +93,10 @@ fn no_line() -> Line
 
 // The line whose cell starts at an offset.
 fn read(lines: &[u8], at: usize) -> Line
-    requires { ⌜ at + 40 ≤ length (now lines) ⌝ }
+    requires { ⌜ at + lineCell ≤ length (now lines) ⌝ }
     ensures { λ r. ⌜ r ≡ lineFrom (now (lines .entry)) at ⌝ }
 {
-    let mut key = [0u8; 11];
+    let mut key = [0u8; KEY];
     octets::run::fill(&mut key, lines, at);
     let mut symbol = [0u8; 8];
     octets::run::fill(&mut symbol, lines, at + SYMBOL);
@@ -129,7 +133,7 @@ fn mark_of(live: bool) -> u8
 
 // Stores a line in the cell that starts at an offset.
 fn store(lines: &mut [u8], at: usize, l: Line)
-    requires { ⌜ at + 40 ≤ length (now lines) ⌝ }
+    requires { ⌜ at + lineCell ≤ length (now lines) ⌝ }
     ensures { λ _. ⌜ now (lines .exit) ≡ sets (now (lines .entry)) at (lineBytes l) ⌝ }
 {
     let key = l.key;

@@ -10,4 +10,5 @@ use Rattle.numbers.specs.Number.{digits}
 pub digits-bytes : (n x : ℕ) → Bytes (digits n x)
 unfolding digits
 digits-bytes zero x = none-bytes
-digits-bytes (suc n) x = append-bytes (digits n (x / 256)) (x % 256 ∷ []) (digits-bytes n (x / 256)) (cons-bytes (x % 256) [] (omega arith) none-bytes)
+digits-bytes (suc n) x =
+    append-bytes (digits n (x / 256)) (x % 256 ∷ []) (digits-bytes n (x / 256)) (cons-bytes (x % 256) [] (omega arith) none-bytes)

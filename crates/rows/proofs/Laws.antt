@@ -22,7 +22,8 @@ tab-map g f i zero = refl
 tab-map g f i (suc n) = rw (tab-map g f (suc i) n)
 
 pub row-stored : (m a b out : List ℕ) (at : ℕ) (l : Listing) → length (l .symbol) ≡ 8
-    → a ≡ sets m at (l .symbol) → b ≡ sets a (at + atClose) (digits 4 (l .close)) → out ≡ sets b (at + atSummary) (replicate (rowCell - atSummary) 0)
+    → a ≡ sets m at (l .symbol) → b ≡ sets a (at + atClose) (digits 4 (l .close))
+    → out ≡ sets b (at + atSummary) (replicate (rowCell - atSummary) 0)
     → out ≡ sets m (at + 0) (newRow l)
 unfolding newRow
 row-stored m a b out at l h ea eb eo =
@@ -35,11 +36,13 @@ row-stored m a b out at l h ea eb eo =
     ∙ then-stored symbol (d ++ r) m a at (at + atClose) ea (omega (arith, h))
     ∙ ap (λ (k : ℕ). sets m k (symbol ++ (d ++ r))) (sym (add-zero at))
 
-pub report-stored : (m a out : List ℕ) (at v : ℕ) → a ≡ set m (at + atReported) 1 → out ≡ sets a (at + atVolume) (digits 8 v) → out ≡ sets m (at + atReported) (reportBytes v)
+pub report-stored : (m a out : List ℕ) (at v : ℕ) → a ≡ set m (at + atReported) 1 → out ≡ sets a (at + atVolume) (digits 8 v)
+    → out ≡ sets m (at + atReported) (reportBytes v)
 unfolding reportBytes
 report-stored m a out at v ea eo = eo ∙ then-stored (1 ∷ []) (digits 8 v) m a (at + atReported) (at + atVolume) ea (omega arith)
 
-pub summary-stored : (m a b out : List ℕ) (at h l : ℕ) → a ≡ set m (at + atSummary) 1 → b ≡ sets a (at + atHigh) (digits 4 h) → out ≡ sets b (at + atLow) (digits 4 l)
+pub summary-stored : (m a b out : List ℕ) (at h l : ℕ) → a ≡ set m (at + atSummary) 1 → b ≡ sets a (at + atHigh) (digits 4 h)
+    → out ≡ sets b (at + atLow) (digits 4 l)
     → out ≡ sets m (at + atSummary) (summaryBytes h l)
 unfolding summaryBytes
 summary-stored m a b out at h l ea eb eo =

@@ -18,9 +18,11 @@ use Rattle.rows.specs.declared.Reported.{Reported}
 use Rattle.rows.specs.declared.Reported.the-variants.{Volume}
 use Rattle.cells.specs.Search.{first}
 use Rattle.rows.specs.Cell.{rowCell, atClose, atSummary, atHigh, atLow, atReported, atVolume}
-use Rattle.rows.specs.Rows.{listingFrom, summaryAt, reportedAt, rowFrom, newRow, reportBytes, summaryBytes, rowAt, rowLimit, usedRows, noRow, rowIn, inRow, withRow, withReport, withSummary}
+use Rattle.rows.specs.Rows.{listingFrom, summaryAt, reportedAt, rowFrom, newRow, reportBytes, summaryBytes, rowAt, rowLimit, usedRows}
+use Rattle.rows.specs.Rows.{noRow, rowIn, inRow, withRow, withReport, withSummary}
 use Rattle.rows.specs.Changed.{listedRow, reporting, summarised, ListingFits}
-use Rattle.cells.proofs.Slabs.{Agree, Kept, number-here, number-past, part-agree, stored-found, stored-kept, stored-length, stored-past, used, used-add, used-get, used-in, used-length, used-set}
+use Rattle.cells.proofs.Slabs.{Agree, Kept, number-here, number-past, part-agree, stored-found, stored-kept, stored-length, stored-past}
+use Rattle.cells.proofs.Slabs.{used, used-add, used-get, used-in, used-length, used-set}
 
 -- ---- a row's cell
 
@@ -28,14 +30,16 @@ module _ (m w : List ℕ) (at : ℕ) where
   summary-agree : Agree m w (at + atSummary) (at + atReported) → summaryAt w at ≡ summaryAt m at
   unfolding summaryAt
   summary-agree h =
-      let high : part w (at + atHigh) 4 ≡ part m (at + atHigh) 4 = part-agree m w (at + atHigh) 4 (λ j a b. h j (omega arith) (omega arith)) in
+      let high : part w (at + atHigh) 4 ≡ part m (at + atHigh) 4
+      = part-agree m w (at + atHigh) 4 (λ j a b. h j (omega arith) (omega arith)) in
       let low : part w (at + atLow) 4 ≡ part m (at + atLow) 4 = part-agree m w (at + atLow) 4 (λ j a b. h j (omega arith) (omega arith)) in
       rw (h (at + atSummary) (omega arith) (omega arith), high, low)
 
   reported-agree : Agree m w (at + atReported) (at + rowCell) → reportedAt w at ≡ reportedAt m at
   unfolding reportedAt
   reported-agree h =
-      let volume : part w (at + atVolume) 8 ≡ part m (at + atVolume) 8 = part-agree m w (at + atVolume) 8 (λ j a b. h j (omega arith) (omega arith)) in
+      let volume : part w (at + atVolume) 8 ≡ part m (at + atVolume) 8
+      = part-agree m w (at + atVolume) 8 (λ j a b. h j (omega arith) (omega arith)) in
       rw (h (at + atReported) (omega arith) (omega arith), volume)
 
   -- a row whose symbol and close are as before
@@ -44,7 +48,8 @@ module _ (m w : List ℕ) (at : ℕ) where
   unfolding rowFrom listingFrom
   row-as s r h es er =
       let symbol : part w at 8 ≡ part m at 8 = part-agree m w at 8 (λ j a b. h j a (omega arith)) in
-      let close : part w (at + atClose) 4 ≡ part m (at + atClose) 4 = part-agree m w (at + atClose) 4 (λ j a b. h j (omega arith) (omega arith)) in
+      let close : part w (at + atClose) 4 ≡ part m (at + atClose) 4
+      = part-agree m w (at + atClose) 4 (λ j a b. h j (omega arith) (omega arith)) in
       rw (symbol, close, es, er)
 
 row-local : (m w : List ℕ) (at : ℕ) → Agree m w at (at + rowCell) → rowFrom w at ≡ rowFrom m at
@@ -66,7 +71,8 @@ row-back w rest at l f d =
     let d0 : drop at w ≡ symbol ++ r1 = d ∙ simp append-assoc in
     let d1 : drop (at + atClose) w ≡ r1 = trips.walk w at 8 (at + atClose) symbol r1 d0 (f .symbol) refl in
     let d2 : drop (at + atSummary) w ≡ r2 = number-past w (at + atClose) 4 (at + atSummary) close r2 d1 (omega arith) in
-    let d3 : drop (at + atReported) w ≡ zeros = trips.walk w (at + atSummary) 9 (at + atReported) (replicate 9 0) zeros d2 refl (omega arith) in
+    let d3 : drop (at + atReported) w ≡ zeros
+    = trips.walk w (at + atSummary) 9 (at + atReported) (replicate 9 0) zeros d2 refl (omega arith) in
     let es : part w at 8 ≡ symbol = trips.here w at 8 symbol r1 d0 (f .symbol) in
     let ec : be (part w (at + atClose) 4) ≡ close = number-here w (at + atClose) 4 close r2 d1 (f .close) in
     let em : getD w (at + atSummary) 0 ≡ 0 = trips.first w (at + atSummary) 0 (replicate 8 0 ++ zeros) d2 in
@@ -81,7 +87,8 @@ new-row-length l h = simp length-append (omega (arith, digits-length 4 (l .close
 report-back : (w rest : List ℕ) (at v : ℕ) → v < 2 ^ 64 → drop (at + atReported) w ≡ reportBytes v ++ rest → reportedAt w at ≡ Volume v
 unfolding reportedAt reportBytes
 report-back w rest at v h d =
-    let d1 : drop (at + atVolume) w ≡ digits 8 v ++ rest = trips.walk w (at + atReported) 1 (at + atVolume) (1 ∷ []) (digits 8 v ++ rest) d refl (omega arith) in
+    let d1 : drop (at + atVolume) w ≡ digits 8 v ++ rest
+    = trips.walk w (at + atReported) 1 (at + atVolume) (1 ∷ []) (digits 8 v ++ rest) d refl (omega arith) in
     let e : getD w (at + atReported) 0 ≡ 1 = trips.first w (at + atReported) 1 (digits 8 v ++ rest) d in
     let volume : be (part w (at + atVolume) 8) ≡ v = number-here w (at + atVolume) 8 v rest d1 h in
     rw (e, volume)
@@ -91,7 +98,8 @@ unfolding reportBytes
 report-length v = ap suc (digits-length 8 v)
 
 -- a stored high and low are read as they were
-summary-back : (w rest : List ℕ) (at h l : ℕ) → h < 2 ^ 32 → l < 2 ^ 32 → drop (at + atSummary) w ≡ summaryBytes h l ++ rest → summaryAt w at ≡ HighLow h l
+summary-back : (w rest : List ℕ) (at h l : ℕ) → h < 2 ^ 32 → l < 2 ^ 32 → drop (at + atSummary) w ≡ summaryBytes h l ++ rest
+    → summaryAt w at ≡ HighLow h l
 unfolding summaryAt summaryBytes
 summary-back w rest at h l hh hl d =
     let r2 = digits 4 l ++ rest in
@@ -116,12 +124,14 @@ row-length m i from bytes = stored-length (rowLimit (length m)) m i (i * rowCell
 
 -- a store in a row's cell keeps every byte outside the place it goes to
 pub row-touches : (m : List ℕ) (i from : ℕ) (bytes : List ℕ) (j : ℕ) → from + length bytes ≤ rowCell
-    → (j < i * rowCell + from → getD (inRow m i from bytes) j 0 ≡ getD m j 0) × (i * rowCell + from + length bytes ≤ j → getD (inRow m i from bytes) j 0 ≡ getD m j 0)
+    → (j < i * rowCell + from → getD (inRow m i from bytes) j 0 ≡ getD m j 0)
+    × (i * rowCell + from + length bytes ≤ j → getD (inRow m i from bytes) j 0 ≡ getD m j 0)
 unfolding inRow
 row-touches m i from bytes j f = stored-kept (rowLimit (length m)) m i (i * rowCell + from) bytes j
 
 -- bytes past the last whole cell never change
-pub row-past : (m : List ℕ) (i from : ℕ) (bytes : List ℕ) (j : ℕ) → from + length bytes ≤ rowCell → rowLimit (length m) * rowCell ≤ j → getD (inRow m i from bytes) j 0 ≡ getD m j 0
+pub row-past : (m : List ℕ) (i from : ℕ) (bytes : List ℕ) (j : ℕ) → from + length bytes ≤ rowCell
+    → rowLimit (length m) * rowCell ≤ j → getD (inRow m i from bytes) j 0 ≡ getD m j 0
 unfolding inRow
 row-past m i from bytes j f h =
     stored-past (rowLimit (length m)) m i (i * rowCell + from) bytes (rowLimit (length m) * rowCell) j (λ c. omega arith) h
@@ -144,7 +154,8 @@ module _ (m : List ℕ) (k from : ℕ) (bytes : List ℕ) (fits : from + length 
   in-kept : Kept m (inRow m k from bytes) (k * rowCell) (k * rowCell + rowCell)
   in-kept j = (λ h. row-touches m k from bytes j fits .0 (omega arith), λ h. row-touches m k from bytes j fits .1 (omega arith))
 
-  in-found : k < rowLimit (length m) → drop (k * rowCell + from) (inRow m k from bytes) ≡ bytes ++ drop (k * rowCell + from + length bytes) m
+  in-found : k < rowLimit (length m)
+      → drop (k * rowCell + from) (inRow m k from bytes) ≡ bytes ++ drop (k * rowCell + from + length bytes) m
   unfolding inRow
   in-found h = stored-found (rowLimit (length m)) m k (k * rowCell + from) bytes h (omega arith)
 
@@ -158,7 +169,8 @@ module _ (m : List ℕ) (k from : ℕ) (bytes : List ℕ) (fits : from + length 
   in-set : (n : ℕ) (change : Row → Row) → k < min n (rowLimit (length m)) → rowAt (inRow m k from bytes) k ≡ change (rowAt m k)
       → usedRows (inRow m k from bytes) n ≡ set (usedRows m n) k (change (getD (usedRows m n) k noRow))
   unfolding usedRows
-  in-set n change h e = used-set rowFrom rowCell rowLimit row-local m (inRow m k from bytes) k (row-length m k from bytes) in-kept n change noRow h e
+  in-set n change h e =
+      used-set rowFrom rowCell rowLimit row-local m (inRow m k from bytes) k (row-length m k from bytes) in-kept n change noRow h e
 
 -- a row stored behind the used ones
 pub rows-put : (m : List ℕ) (n : ℕ) (l : Listing) → ListingFits l → n < rowLimit (length m)
@@ -184,7 +196,8 @@ rows-report m n k v hv h =
     let e : length bytes ≡ 9 = report-length v in
     let fits : atReported + length bytes ≤ rowCell = omega arith in
     let d = in-found m k atReported bytes fits (omega arith) in
-    let same : summaryAt w at ≡ summaryAt m at = summary-agree m w at (in-before m k atReported bytes fits (at + atSummary) (at + atReported) (omega arith)) in
+    let same : summaryAt w at ≡ summaryAt m at
+    = summary-agree m w at (in-before m k atReported bytes fits (at + atSummary) (at + atReported) (omega arith)) in
     let new : reportedAt w at ≡ Volume v = report-back w (drop (at + atReported + length bytes) m) at v hv d in
     in-set m k atReported bytes fits n (reporting v) h
     (row-as m w at (summaryAt m at) (Volume v) (in-before m k atReported bytes fits at (at + atSummary) (omega arith)) same new)
@@ -201,6 +214,7 @@ rows-summary m n k h l hh hl g =
     let fits : atSummary + length bytes ≤ rowCell = omega arith in
     let d = in-found m k atSummary bytes fits (omega arith) in
     let new : summaryAt w at ≡ HighLow h l = summary-back w (drop (at + atSummary + length bytes) m) at h l hh hl d in
-    let same : reportedAt w at ≡ reportedAt m at = reported-agree m w at (in-after m k atSummary bytes fits (at + atReported) (at + rowCell) (omega arith)) in
+    let same : reportedAt w at ≡ reportedAt m at
+    = reported-agree m w at (in-after m k atSummary bytes fits (at + atReported) (at + rowCell) (omega arith)) in
     in-set m k atSummary bytes fits n (summarised h l) g
     (row-as m w at (HighLow h l) (reportedAt m at) (in-before m k atSummary bytes fits at (at + atSummary) (omega arith)) new same)

@@ -1,11 +1,13 @@
-// Rows: one cell of bytes for each listed symbol. The listings of the used rows, in their order, are the sheet of the day.
+// Rows: one cell of bytes for each listed symbol. The listings of the used rows, in their order, are the sheet of the
+// day.
 use cells::Found;
 use numbers::lesser;
 ghost use mathlib.Core.Path.{_≡_};
 ghost use Prim.Native.Nat.{_+_, _*_, _≤_};
 ghost use lib.ListN.{length};
 ghost use Rattle.rows.specs.Cell.{rowCell};
-ghost use Rattle.rows.specs.Rows.{listingFrom, rowFrom, noRow, summaryAt, reportedAt, rowLimit, usedSheet, listingOf, rowIn};
+ghost use Rattle.rows.specs.Rows.{listingFrom, rowFrom, noRow, summaryAt, reportedAt};
+ghost use Rattle.rows.specs.Rows.{rowLimit, usedSheet, listingOf, rowIn};
 ghost use Rattle.rows.specs.Rows.{withRow, withReport, withSummary};
 
 // What is listed: a symbol and its adjusted previous close. A close of 0 is unknown.

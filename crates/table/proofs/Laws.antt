@@ -72,16 +72,20 @@ module _ (l : Ledger) (kind : Kind) (r : Record) (v : Verdict) (e : v ≡ namedB
 module _ (b : Basis) (kind : Kind) (r : Record) where
   pub due-not : due (b .phase) kind (r .event) ≡ false → dueBy b kind r ≡ plainly (answerOf 6)
   unfolding dueBy
-  due-not d = ap (λ (t : Bool). cond t (cond (isEvent kind) (plainly (answerOf 0)) (listedBy (b .sheet) (b .ledger) kind r)) (plainly (answerOf 6))) d
+  due-not d =
+      ap (λ (t : Bool). cond t (cond (isEvent kind) (plainly (answerOf 0)) (listedBy (b .sheet) (b .ledger) kind r))
+      (plainly (answerOf 6))) d
 
   pub due-event : due (b .phase) kind (r .event) ≡ true → isEvent kind ≡ true → dueBy b kind r ≡ plainly (answerOf 0)
   unfolding dueBy
   due-event d e =
-      ap (λ (t : Bool). cond t (cond (isEvent kind) (plainly (answerOf 0)) (listedBy (b .sheet) (b .ledger) kind r)) (plainly (answerOf 6))) d
+      ap (λ (t : Bool). cond t (cond (isEvent kind) (plainly (answerOf 0)) (listedBy (b .sheet) (b .ledger) kind r))
+      (plainly (answerOf 6))) d
       ∙ ap (λ (t : Bool). cond t (plainly (answerOf 0)) (listedBy (b .sheet) (b .ledger) kind r)) e
 
   pub due-listed : due (b .phase) kind (r .event) ≡ true → isEvent kind ≡ false → dueBy b kind r ≡ listedBy (b .sheet) (b .ledger) kind r
   unfolding dueBy
   due-listed d e =
-      ap (λ (t : Bool). cond t (cond (isEvent kind) (plainly (answerOf 0)) (listedBy (b .sheet) (b .ledger) kind r)) (plainly (answerOf 6))) d
+      ap (λ (t : Bool). cond t (cond (isEvent kind) (plainly (answerOf 0)) (listedBy (b .sheet) (b .ledger) kind r))
+      (plainly (answerOf 6))) d
       ∙ ap (λ (t : Bool). cond t (plainly (answerOf 0)) (listedBy (b .sheet) (b .ledger) kind r)) e

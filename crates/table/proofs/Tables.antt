@@ -33,7 +33,8 @@ use Rattle.counters.specs.Counting.{lastNumber}
 use Rattle.keys.specs.Keys.{kindIn, oldKey, newKey, matches}
 use Rattle.table.specs.declared.Verdict.{Verdict}
 use Rattle.table.specs.Table.{Ledger, Basis, isFound, deadAt, differsAt, isListed, numberTable, contentTable}
-use Rattle.table.specs.Working.{plainly, naming, namedAt, namedBy, madeAt, madeBy, thenMade, tradeBy, onRow, listedAt, listedBy, dueBy, judgedBy}
+use Rattle.table.specs.Working.{plainly, naming, namedAt, namedBy, madeAt, madeBy, thenMade, tradeBy, onRow, listedAt, listedBy}
+use Rattle.table.specs.Working.{dueBy, judgedBy}
 
 -- ---- today's table: 17, and then numbers that rise
 
@@ -111,7 +112,8 @@ module _ (l : Ledger) (kind : Kind) (r : Record) where
 
       go : (t : Bool) (f : Found)
           → cond t (thenMade l kind r (namedAt r (l .lines) f)) (plainly (answerOf (madeBy l kind r))) .answer
-          ≡ answerOf (given (spends 8 (t && not (isFound f)) ∷ spends 9 (t && deadAt (l .lines) f) ∷ spends 10 (t && differsAt r (l .lines) f) ∷ madeTable l kind r) .number)
+          ≡ answerOf (given (spends 8 (t && not (isFound f)) ∷ spends 9 (t && deadAt (l .lines) f) ∷ spends 10
+          (t && differsAt r (l .lines) f) ∷ madeTable l kind r) .number)
       go false Nothing = made
       go false (At i) = made
       go true Nothing = refl
@@ -259,7 +261,9 @@ pub number-then : (b : Bool) (w n : ℕ) (cases : List Case)
 unfolding numberTable
 number-then b w n cases = go b (eqb n 0 || ltb lastNumber n) (ltb n w) (ltb w n)
   where
-    go : (b x y z : Bool) → given (inBook b (numbered x y z ++ cases)) ≡ cond (eqb (given (inBook b (numbered x y z)) .number) 0) (given cases) (given (inBook b (numbered x y z)))
+    go : (b x y z : Bool)
+        → given (inBook b (numbered x y z ++ cases))
+        ≡ cond (eqb (given (inBook b (numbered x y z)) .number) 0) (given cases) (given (inBook b (numbered x y z)))
     go false x y z = refl
     go true true y z = refl
     go true false true z = refl
@@ -312,11 +316,13 @@ module _ (b : Bool) (w n : ℕ) (cases : List Case) where
 
   -- any other number: the content is not looked at
   pub number-refused : (Wanted b w n → ⊥) → given (inBook b (numberTable w n ++ cases)) ≡ given (inBook b (numberTable w n))
-  number-refused h = number-then b w n cases ∙ rw (ne-eqb (given (inBook b (numberTable w n)) .number) 0 (λ e. h (number-wanted b w n .0 e)))
+  number-refused h =
+      number-then b w n cases ∙ rw (ne-eqb (given (inBook b (numberTable w n)) .number) 0 (λ e. h (number-wanted b w n .0 e)))
 
   -- nothing but the wanted number is taken
   pub number-taken : given (inBook b (numberTable w n ++ cases)) .number ≡ 0 → Wanted b w n
-  number-taken e = go (eqb (given (inBook b (numberTable w n)) .number) 0) refl (sym (ap (λ (c : Case). c .number) (number-then b w n cases)) ∙ e)
+  number-taken e =
+      go (eqb (given (inBook b (numberTable w n)) .number) 0) refl (sym (ap (λ (c : Case). c .number) (number-then b w n cases)) ∙ e)
     where
       go : (t : Bool) → eqb (given (inBook b (numberTable w n)) .number) 0 ≡ t
           → cond t (given cases) (given (inBook b (numberTable w n))) .number ≡ 0 → Wanted b w n

@@ -74,7 +74,8 @@ listedBy sheet l kind r = listedAt l kind r (listingOf (r .symbol) sheet)
 
 unfoldable pub dueBy : Basis → Kind → Record → Verdict
 dueBy b kind r =
-    cond (due (b .phase) kind (r .event)) (cond (isEvent kind) (plainly (answerOf 0)) (listedBy (b .sheet) (b .ledger) kind r)) (plainly (answerOf 6))
+    cond (due (b .phase) kind (r .event)) (cond (isEvent kind) (plainly (answerOf 0)) (listedBy (b .sheet) (b .ledger) kind r))
+    (plainly (answerOf 6))
 
 -- ---- 4 to 12 or 0
 

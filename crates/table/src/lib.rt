@@ -143,8 +143,8 @@ fn judge_listed(
     }
 }
 
-// What the table gives a reading of a type: what refused it, or 6 to 12, or `Done` and what acting on it needs. `listed` rows and
-// `used` lines of the rooms are in use.
+// What the table gives a reading of a type: what refused it, or 6 to 12, or `Done` and what acting on it needs.
+// `listed` rows and `used` lines of the rooms are in use.
 pub fn judge(
     phase: u64,
     rows: &[u8],

@@ -76,7 +76,8 @@ fn summarise(rows: &mut [u8], r: Record, i: usize)
     rows::report(rows, i, r.consolidated);
 }
 
-// The rows after a message: T, X, C and J set the reported volume of row i, which is their symbol's; J keeps its high and low there.
+// The rows after a message: T, X, C and J set the reported volume of row i, which is their symbol's; J keeps its high
+// and low there.
 pub fn take_rows(rows: &mut [u8], kind: Kind, r: Record, i: usize)
     ensures { λ _. ⌜ now (rows .exit) ≡ Taking.rowsBy kind (now (rows .entry)) r i ⌝ }
 {

@@ -94,7 +94,8 @@ cancelFor symbol k centre s volume = reportFor symbol k 88 centre s volume
 
 -- J of a symbol: high, low, a close of 0, and the consolidated volume
 abbrev pub summaryFor : List ℕ → ℕ → ℕ → ℕ → ℕ → List ℕ
-summaryFor symbol k high low volume = digits 4 (k * 1000) ++ (74 ∷ symbol ++ (81 ∷ digits 4 high ++ (digits 4 low ++ (digits 4 0 ++ digits 8 volume))))
+summaryFor symbol k high low volume =
+    digits 4 (k * 1000) ++ (74 ∷ symbol ++ (81 ∷ digits 4 high ++ (digits 4 low ++ (digits 4 0 ++ digits 8 volume))))
 
 -- those of ABCD
 abbrev pub trade : ℕ → ℕ → List ℕ → ℕ → List ℕ
@@ -208,9 +209,11 @@ leftBy day s (n ∷ ns) = leftBy day (deliveredIn s n (day n)) ns
 unfoldable pub saidBack : Case → List ℕ
 unfolding Run.tab Run.part Number.be Number.digits Up.up Text.text Conditions.levelAt Conditions.marksOf Conditions.conditionMarks
     Reading.lengthBy saleAt Fields.fieldsS Fields.fieldsTrade Fields.fieldsJ Fields.fieldsOf
-    Lawful.saleOk Lawful.saleNone Lawful.pricesNone Lawful.tradeOk Lawful.lawfulS Lawful.lawfulT Lawful.lawfulC Lawful.lawfulJ Lawful.lawfulOf
+    Lawful.saleOk Lawful.saleNone Lawful.pricesNone Lawful.tradeOk Lawful.lawfulS Lawful.lawfulT Lawful.lawfulC Lawful.lawfulJ
+    Lawful.lawfulOf
     Reading.judgedOf Reading.readOf Search.first Lines.lineFrom Lines.lineBytes Lines.usedLines Lines.lineIn Lines.withLine Lines.withDead
-    Rows.listingFrom Rows.summaryAt Rows.reportedAt Rows.rowFrom Rows.newRow Rows.reportBytes Rows.summaryBytes Rows.usedRows Rows.rowIn Rows.inRow
+    Rows.listingFrom Rows.summaryAt Rows.reportedAt Rows.rowFrom Rows.newRow Rows.reportBytes Rows.summaryBytes Rows.usedRows
+    Rows.rowIn Rows.inRow
     Walking.counts Figures.sold Walking.tally Walking.fold Walking.figuresOf Showing.shownOf
     Kinds.kindOf Keys.matches Table.numberTable Table.contentTable Taking.linesBy Taking.rowsBy Counting.sound Counting.takenBy
     Calls.listTable Calls.listAnswer Calls.listed Calls.messageGiven Calls.delivered Calls.rowAnswer Calls.shown
@@ -231,7 +234,8 @@ bookShows c =
 -- ---- worked by the clerk
 
 unfoldable pub clerkShows : Case → List RowShown
-unfolding bookShows Clerk.sheetFrom Clerk.phaseAfter Clerk.originOf Clerk.tradesBut Clerk.takenOf Clerk.summaryOf Clerk.reportedOf Clerk.rowOf
+unfolding bookShows Clerk.sheetFrom Clerk.phaseAfter Clerk.originOf Clerk.tradesBut Clerk.takenOf Clerk.summaryOf Clerk.reportedOf
+Clerk.rowOf
     Clerk.shownBy Arrivals.upto
 clerkShows c =
     let es = takenOf (sheetOf (rowLimit rowsRoom) (c .sheet)) (lineLimit linesRoom) (upto (dayOf (c .day)) (c .used)) in

@@ -15,7 +15,8 @@ use Rattle.clerk.specs.Steps.{Book}
 use Rattle.clerk.specs.Clerk as Clerk
 use Rattle.clerk.specs.Clerk.{sheetOf, clerkBook}
 use Rattle.clerk.specs.Arrivals.{Largest, upto}
-use Rattle.trials.specs.Days.{abcd, q1, event, trade, cancel, dayOf, alone, rowsRoom, linesRoom, opened, deliveredIn, leftBy, clerkShows}
+use Rattle.trials.specs.Days.{abcd, q1, event, trade, cancel, dayOf, alone, rowsRoom, linesRoom, opened, deliveredIn, leftBy}
+use Rattle.trials.specs.Days.{clerkShows}
 
 abbrev pub day : ℕ → List ℕ
 day = dayOf (event 1 79 ∷ trade 2 81 q1 100 ∷ cancel 3 81 q1 200 ∷ [])
@@ -46,7 +47,8 @@ begun = spent ready
 
 pub record Breaks : Type 0 where
   -- copies that differ: 2 comes as the day has it, a trade, and is too early; then 1; then 2 as event S, and that is used
-  pub otherBytes : (deliveredIn (deliveredIn (deliveredIn ready 2 (day 2)) 1 (day 1)) 2 (event 2 83) .counters .phase ≡ 2) × (clerks 2 .phase ≡ 1)
+  pub otherBytes : (deliveredIn (deliveredIn (deliveredIn ready 2 (day 2)) 1 (day 1)) 2 (event 2 83) .counters .phase ≡ 2)
+      × (clerks 2 .phase ≡ 1)
   -- a number above N: 1 and 2 come, where N is 1. No book and no clerk is asked here: what fails is `n ≤ N`
   pub aboveLast : Largest (1 ∷ 2 ∷ []) 2 × (2 ≤ 1 → ⊥)
   -- n counts numbers that did not come in order: 2, then 1
@@ -62,7 +64,8 @@ pub record Breaks : Type 0 where
   -- another room for rows is lent after number 1: the trade's symbol is not listed there
   pub otherRows :
       let s = afterThese (1 ∷ []) in
-      (delivered (lent (s .counters) (replicate rowsRoom 35) (s .lines)) (arrives 2 (day 2)) .state .counters .taken ≡ 1) × (clerks 2 .taken ≡ 2)
+      (delivered (lent (s .counters) (replicate rowsRoom 35) (s .lines)) (arrives 2 (day 2)) .state .counters .taken ≡ 1) ×
+      (clerks 2 .taken ≡ 2)
   -- no room for lines is lent after number 1: the trade gives 12, and the clerk knows the room that was lent at first
   pub otherSize :
       let s = afterThese (1 ∷ []) in
@@ -70,7 +73,8 @@ pub record Breaks : Type 0 where
   -- another room for lines, of the same size, is lent after number 2: the cancel finds no line
   pub otherLines :
       let s = afterThese (1 ∷ 2 ∷ []) in
-      (delivered (lent (s .counters) (s .rows) (replicate linesRoom 35)) (arrives 3 (day 3)) .state .counters .taken ≡ 2) × (clerks 3 .taken ≡ 3)
+      (delivered (lent (s .counters) (s .rows) (replicate linesRoom 35)) (arrives 3 (day 3)) .state .counters .taken ≡ 2) ×
+      (clerks 3 .taken ≡ 3)
   -- the counters of an earlier call are handed in again
   pub oldCounters :
       let s = afterThese (1 ∷ 2 ∷ []) in

@@ -11,6 +11,7 @@ use Rattle.numbers.specs.Number.{be}
 use Rattle.octets.proofs.Laws.{tab-step, tab-end}
 use Rattle.conditions.specs.declared.Marks.{Marks}
 use Rattle.conditions.specs.Conditions.{conditionMarks}
+use Rattle.lines.specs.Cell.{atSymbol, atPrice, atSize, atCondition, atPlace, atLive}
 use Rattle.lines.specs.Lines.{lineFrom}
 use Rattle.lines.specs.declared.Line.{Line}
 use Rattle.figures.specs.declared.Figures.{Figures}
@@ -21,9 +22,9 @@ use Rattle.walk.specs.Walking.{counts, dealt, tally, fold}
 
 -- a line counts if it is live and its symbol's number is that of the symbol
 pub counts-number : (m symbol : List ℕ) (at name : ℕ) → Bytes m → Bytes symbol → length symbol ≡ 8 → name ≡ low (part symbol 0 8)
-    → (eqb (getD m (at + 39) 0) 1 && eqb (low (part m (at + 11) 8)) name) ≡ counts symbol (lineFrom m at)
+    → (eqb (getD m (at + atLive) 0) 1 && eqb (low (part m (at + atSymbol) 8)) name) ≡ counts symbol (lineFrom m at)
 unfolding counts lineFrom
-counts-number m symbol at name b c l e = rw (e, number-same m symbol (at + 11) b c l)
+counts-number m symbol at name b c l e = rw (e, number-same m symbol (at + atSymbol) b c l)
 
 module _ (symbol : List ℕ) (t : Figures) (l : Line) where
   pub tally-counted : counts symbol l ≡ true → tally symbol t l ≡ dealt t l
@@ -45,7 +46,8 @@ fold-end f a g i n h = rw (tab-end g i n h)
 
 -- one more trade, from what was read of its line
 pub dealt-read : (m : List ℕ) (t r : Figures) (at : ℕ) (condition : List ℕ) (price size place : ℕ) (marks : Marks)
-    → condition ≡ part m (at + 27) 4 → price ≡ be (part m (at + 19) 4) → size ≡ be (part m (at + 23) 4) → place ≡ be (part m (at + 31) 4)
+    → condition ≡ part m (at + atCondition) 4 → price ≡ be (part m (at + atPrice) 4) → size ≡ be (part m (at + atSize) 4)
+    → place ≡ be (part m (at + atPlace) 4)
     → marks ≡ conditionMarks condition → r ≡ sold t price size place marks → r ≡ dealt t (lineFrom m at)
 unfolding lineFrom
 dealt-read m t r at condition price size place marks ec ep ez ew em e = rw (e, em, ec, ep, ez, ew)

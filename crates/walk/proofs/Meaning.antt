@@ -13,6 +13,7 @@ use lib.Dec.{ltb}
 use lib.ListN.{length, length-append}
 use Rattle.octets.specs.Run.{tab, Bytes}
 use Rattle.numbers.proofs.Laws.{be-below}
+use Rattle.lines.specs.Cell.{lineCell, lineCap, atSize}
 use Rattle.lines.specs.declared.Line.{Line}
 use Rattle.figures.specs.declared.Price.{Price}
 use Rattle.figures.specs.declared.Price.the-variants.{Absent, Of}
@@ -335,16 +336,16 @@ keep-sizes passes line b h i (suc n) = go (passes (line i)) (keep-sizes passes l
     go false r = omega (arith, suc-mul n b)
 
 module _ (m symbol : List ℕ) (used : ℕ) where
-  pub volume-fits : Bytes m → figuresOf symbol (usedLines m used) .volume ≤ 65536 * 4294967295
+  pub volume-fits : Bytes m → figuresOf symbol (usedLines m used) .volume ≤ lineCap * 4294967295
   unfolding usedLines lineFrom
   volume-fits b =
       let e = figures-are symbol (usedLines m used) .volume in
       let s
-      = keep-sizes (counts symbol) (lineAt m) 4294967295 (λ k. omega (arith, be-below m (k * 40 + 23) 4 b)) 0
+      = keep-sizes (counts symbol) (lineAt m) 4294967295 (λ k. omega (arith, be-below m (k * lineCell + atSize) 4 b)) 0
       (min used (lineLimit (length m))) in
       omega (arith, e, s)
 
-  pub count-fits : figuresOf symbol (usedLines m used) .count ≤ 65536
+  pub count-fits : figuresOf symbol (usedLines m used) .count ≤ lineCap
   count-fits =
       let e = figures-are symbol (usedLines m used) .count in
       omega (arith, e, keep-length (counts symbol) (usedLines m used), used-lines-length m used)

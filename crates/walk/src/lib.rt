@@ -16,6 +16,7 @@ ghost use Prim.Native.Nat.{_+_, _*_, _≤_, _<_, _^_};
 ghost use lib.Dec.{eqb};
 ghost use lib.ListN.{length, getD};
 ghost use Rattle.octets.specs.Run.{part};
+ghost use Rattle.lines.specs.Cell.{lineCell, atSymbol, atLive};
 ghost use Rattle.lines.specs.Lines.{lineFrom, usedLines};
 ghost use Rattle.numbers.specs.Low.{low};
 ghost use Rattle.figures.specs.Figures.{sold};
@@ -41,9 +42,9 @@ fn with_sale(t: Figures, price: u32, size: u32, place: u32, marks: Marks) -> Fig
 // Whether the line whose cell starts at an offset is live and of the symbol, which is given as the number of its
 // eight bytes.
 fn is_counted(lines: &[u8], at: usize, symbol: u64) -> bool
-    requires { ⌜ at + 40 ≤ length (now lines) ⌝ }
-    ensures { λ r. ⌜ r ≡ (eqb (getD (now (lines .entry)) (at + 39) 0) 1
-        && eqb (low (part (now (lines .entry)) (at + 11) 8)) symbol) ⌝ }
+    requires { ⌜ at + lineCell ≤ length (now lines) ⌝ }
+    ensures { λ r. ⌜ r ≡ (eqb (getD (now (lines .entry)) (at + atLive) 0) 1
+        && eqb (low (part (now (lines .entry)) (at + atSymbol) 8)) symbol) ⌝ }
 {
     if lines[at + LIVE] != 1 {
         return false;
@@ -54,7 +55,7 @@ fn is_counted(lines: &[u8], at: usize, symbol: u64) -> bool
 
 // The figures with the trade of the line whose cell starts at an offset.
 fn with_line(t: Figures, lines: &[u8], at: usize) -> Figures
-    requires { ⌜ at + 40 ≤ length (now lines) ⌝ }
+    requires { ⌜ at + lineCell ≤ length (now lines) ⌝ }
     requires { ⌜ (t .volume + 2 ^ 32 ≤ 2 ^ 64) × (t .count + 1 < 2 ^ 64) ⌝ }
     ensures { λ r. ⌜ r ≡ dealt t (lineFrom (now (lines .entry)) at) ⌝ }
     ensures { λ r. ⌜ (r .volume < t .volume + 2 ^ 32) × (r .count ≤ t .count + 1) ⌝ }

@@ -16,8 +16,13 @@ start c = c .before .before .before .before .before .before
 
 -- what a call lends are bytes
 pub entered : (c : tie.After-shared-slice-known)
-    → Bytes (c .before .before .before .args .rows .now) × Bytes (c .before .before .before .args .lines .now) × Bytes (c .before .before .before .args .message .now)
-entered c = (λ i. c .before .before .slice-known .given i .fits, λ i. c .before .slice-known2 .given i .fits, λ i. c .shared-slice-known .given i .fits)
+    → Bytes (c .before .before .before .args .rows .now) × Bytes (c .before .before .before .args .lines .now)
+    × Bytes (c .before .before .before .args .message .now)
+entered c = (
+  λ i. c .before .before .slice-known .given i .fits,
+  λ i. c .before .slice-known2 .given i .fits,
+  λ i. c .shared-slice-known .given i .fits,
+)
 
 judge-arrival-requires : tie.Need-judge-arrival-requires
 judge-arrival-requires c κs = search needs
@@ -35,14 +40,16 @@ returns : tie.Need-returns
 returns c =
     let judged = c .before .before in
     let s = start judged in
-    early-left (state s) (s .args .number) (s .args .message .now) _ (judged .judge-arrival .ensures) (λ e. c .if1 .taken (c .before .number .ensures ∙ e))
+    early-left (state s) (s .args .number) (s .args .message .now) _ (judged .judge-arrival .ensures)
+    (λ e. c .if1 .taken (c .before .number .ensures ∙ e))
 
 use-number-requires : tie.Need-use-number-requires
 use-number-requires c κs =
     let wanted = c .before .before in
     let judged = wanted .before .before in
     let s = start judged in
-    wanted-number (state s) (s .args .number) (s .args .message .now) _ (judged .judge-arrival .ensures) (sym (wanted .before .number .ensures) ∙ wanted .if1 .left)
+    wanted-number (state s) (s .args .number) (s .args .message .now) _ (judged .judge-arrival .ensures)
+    (sym (wanted .before .number .ensures) ∙ wanted .if1 .left)
 
 same-length-3 : tie.Need-same-length-3
 same-length-3 c = search needs
@@ -56,7 +63,8 @@ returns-2 c =
     let wanted = used .before .before .before in
     let judged = wanted .before .before in
     let s = start judged in
-    wanted-left (state s) (s .args .number) (s .args .message .now) _ (judged .judge-arrival .ensures) (sym (wanted .before .number .ensures) ∙ wanted .if1 .left) _ (used .use-number .ensures)
+    wanted-left (state s) (s .args .number) (s .args .message .now) _ (judged .judge-arrival .ensures)
+    (sym (wanted .before .number .ensures) ∙ wanted .if1 .left) _ (used .use-number .ensures)
 
 pub deliver-spec : {M : Type 1} → statement M
 deliver-spec =

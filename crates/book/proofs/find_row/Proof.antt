@@ -26,13 +26,15 @@ returns : tie.Need-returns
 returns c =
     let there = c .before .before .before in
     let s = there .before .before .before .before in
-    locate-none (state s) (s .args .symbol) (sym (there .before .is-sound .ensures) ∙ there .if1 .taken) (sym (c .before .before .find .ensures) ∙ c .enum-told .given .1)
+    locate-none (state s) (s .args .symbol) (sym (there .before .is-sound .ensures) ∙ there .if1 .taken)
+    (sym (c .before .before .find .ensures) ∙ c .enum-told .given .1)
 
 returns-2 : tie.Need-returns-2
 returns-2 c =
     let there = c .before .before .before .before in
     let s = there .before .before .before .before in
-    locate-there (state s) (s .args .symbol) _ (sym (there .before .is-sound .ensures) ∙ there .if1 .taken) (sym (c .before .before .before .find .ensures) ∙ c .before .i .given .1)
+    locate-there (state s) (s .args .symbol) _ (sym (there .before .is-sound .ensures) ∙ there .if1 .taken)
+    (sym (c .before .before .before .find .ensures) ∙ c .before .i .given .1)
 
 returns-3 : tie.Need-returns-3
 returns-3 c =

@@ -59,27 +59,33 @@ returns-2 c =
     let looked = c .before .before .before .before .before in
     let kept = looked .before .before .before in
     let s = start (asked kept) in
-    list-new (state s) (s .args .l) (safe (asked kept)) (keeps kept) (looked .before .if3 .left) (sym (looked .find .ensures) ∙ c .before .before .before .enum-told .given .1) true (le-leb _ _ (rw (c .before .before .limit .ensures) at (c .if4 .taken)))
+    list-new (state s) (s .args .l) (safe (asked kept)) (keeps kept) (looked .before .if3 .left)
+    (sym (looked .find .ensures) ∙ c .before .before .before .enum-told .given .1) true
+    (le-leb _ _ (rw (c .before .before .limit .ensures) at (c .if4 .taken)))
 
 returns-3 : tie.Need-returns-3
 returns-3 c =
     let looked = c .before .before .before .before .before in
     let kept = looked .before .before .before in
     let s = start (asked kept) in
-    list-new (state s) (s .args .l) (safe (asked kept)) (keeps kept) (looked .before .if3 .left) (sym (looked .find .ensures) ∙ c .before .before .before .enum-told .given .1) false (lt-leb _ _ (rw (c .before .before .limit .ensures) at (c .if4 .left)))
+    list-new (state s) (s .args .l) (safe (asked kept)) (keeps kept) (looked .before .if3 .left)
+    (sym (looked .find .ensures) ∙ c .before .before .before .enum-told .given .1) false
+    (lt-leb _ _ (rw (c .before .before .limit .ensures) at (c .if4 .left)))
 
 returns-4 : tie.Need-returns-4
 returns-4 c =
     let looked = c .before .before .before in
     let kept = looked .before .before .before in
     let s = start (asked kept) in
-    list-there (state s) (s .args .l) (safe (asked kept)) (keeps kept) (looked .before .if3 .left) _ (sym (looked .find .ensures) ∙ c .before .i .given .1)
+    list-there (state s) (s .args .l) (safe (asked kept)) (keeps kept) (looked .before .if3 .left) _
+    (sym (looked .find .ensures) ∙ c .before .i .given .1)
 
 returns-5 : tie.Need-returns-5
 returns-5 c =
     let asked = c .before .before .before .before in
     let s = asked .before .before .before .before .before in
-    list-broken (state s) (s .args .l) (sym (asked .before .is-sound .ensures) ∙ asked .if1 .taken) (ap (λ (b : Bool). b && leb (s .args .l .close) closeTop) (sym (c .before .before .is-text .ensures)) ∙ c .if2 .left)
+    list-broken (state s) (s .args .l) (sym (asked .before .is-sound .ensures) ∙ asked .if1 .taken)
+    (ap (λ (b : Bool). b && leb (s .args .l .close) closeTop) (sym (c .before .before .is-text .ensures)) ∙ c .if2 .left)
 
 returns-6 : tie.Need-returns-6
 returns-6 c =

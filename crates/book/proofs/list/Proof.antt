@@ -44,7 +44,8 @@ returns-2 c =
     let taken = c .before .before .before .before .before in
     let judged = taken .before .before in
     let s = judged .before .before .before .before in
-    list-done (state s) (s .args .l) _ (judged .judge-listing .ensures) (sym (taken .before .number .ensures) ∙ taken .if1 .left) _ _ (c .add-row .ensures) (c .before .before .before .put .ensures)
+    list-done (state s) (s .args .l) _ (judged .judge-listing .ensures)
+    (sym (taken .before .number .ensures) ∙ taken .if1 .left) _ _ (c .add-row .ensures) (c .before .before .before .put .ensures)
 
 pub list-spec : {M : Type 1} → statement M
 list-spec =

@@ -28,7 +28,8 @@ returns : tie.Need-returns
 returns c =
     let found = c .before .before .before in
     let s = found .before .before .before in
-    row-refused (state s) (s .args .symbol) _ (found .find-row .ensures) (λ e. c .before .if1 .taken (c .before .before .number .ensures ∙ e)) _ (c .nothing .ensures)
+    row-refused (state s) (s .args .symbol) _ (found .find-row .ensures)
+    (λ e. c .before .if1 .taken (c .before .before .number .ensures ∙ e)) _ (c .nothing .ensures)
 
 get-requires : tie.Need-get-requires
 get-requires c κs = search needs
@@ -44,7 +45,8 @@ returns-2 c =
     let kept = c .before .before .before in
     let found = kept .before .before in
     let s = found .before .before .before in
-    row-there (state s) (s .args .symbol) _ (found .find-row .ensures) (sym (kept .before .number .ensures) ∙ kept .if1 .left) _ _ _ (c .before .before .get .ensures) (c .before .walk .ensures) (c .shown .ensures)
+    row-there (state s) (s .args .symbol) _ (found .find-row .ensures) (sym (kept .before .number .ensures) ∙ kept .if1 .left) _ _ _
+    (c .before .before .get .ensures) (c .before .walk .ensures) (c .shown .ensures)
 
 pub row-spec : {M : Type 1} → statement M
 row-spec =

@@ -43,7 +43,8 @@ returns c =
     let kinded = judged .before .before .before in
     let got = kinded .before .before in
     let s = got .before .before .before .before in
-    refused-here (state s) (s .args .message .now) (wanted-now s) _ (got .read .ensures) _ (kinded .kind-of .ensures) _ (judged .judge .ensures) (λ e. c .before .if1 .taken (c .before .before .number .ensures ∙ e)) _ (c .use-up .ensures)
+    refused-here (state s) (s .args .message .now) (wanted-now s) _ (got .read .ensures) _ (kinded .kind-of .ensures) _
+    (judged .judge .ensures) (λ e. c .before .if1 .taken (c .before .before .number .ensures ∙ e)) _ (c .use-up .ensures)
 
 cast-take-lines : tie.Need-cast-take-lines
 cast-take-lines c =
@@ -75,7 +76,9 @@ returns-2 c =
     let kinded = judged .before .before .before in
     let got = kinded .before .before in
     let s = got .before .before .before .before in
-    taken-here (state s) (s .args .message .now) (wanted-now s) _ (got .read .ensures) _ (kinded .kind-of .ensures) _ (judged .judge .ensures) (sym (taken .before .number .ensures) ∙ taken .if1 .left) _ _ _ (c .take .ensures) (kept .take-rows .ensures) (put .take-lines .ensures)
+    taken-here (state s) (s .args .message .now) (wanted-now s) _ (got .read .ensures) _ (kinded .kind-of .ensures) _
+    (judged .judge .ensures) (sym (taken .before .number .ensures) ∙ taken .if1 .left) _ _ _ (c .take .ensures)
+    (kept .take-rows .ensures) (put .take-lines .ensures)
 
 pub use-number-spec : {M : Type 1} → statement M
 use-number-spec =

@@ -29,18 +29,35 @@ same-at-requires : tie.Need-same-at-requires
 same-at-requires c κs = search needs
 
 slice-aggregate-same-at-3 : tie.Need-slice-aggregate-same-at-3
-slice-aggregate-same-at-3 c = search (needs, line-condition (c .before .before .before .before .before .before .before .before .before .before .before .before .before))
+slice-aggregate-same-at-3 c =
+    search (
+      needs,
+      line-condition (c .before .before .before .before .before .before .before .before .before .before .before .before
+          .before),
+    )
 
 slice-aggregate-same-at-4 : tie.Need-slice-aggregate-same-at-4
-slice-aggregate-same-at-4 c = search (needs, asked-condition (c .before .before .before .before .before .before .before .before .before .before .before .before .before .before))
+slice-aggregate-same-at-4 c =
+    search (
+      needs,
+      asked-condition (c .before .before .before .before .before .before .before .before .before .before .before
+          .before .before .before),
+    )
 
 same-at-requires-2 : tie.Need-same-at-requires-2
 same-at-requires-2 c κs = search needs
 
 returns : tie.Need-returns
 returns c =
-    let a = c .before .before .before .before .before .before .before .before .before .before .before .before .before .before .before .args in
-    rw (c .same-at2 .ensures, c .before .before .before .before .before .before .before .same-at .ensures) (match-is (a .r) (a .l) (asked-symbol (c .before .before .before .before .before .before .before .before .before .before .before .before .before .before .before)) (asked-condition (c .before .before .before .before .before .before .before .before .before .before .before .before .before .before .before)) (line-symbol (c .before .before .before .before .before .before .before .before .before .before .before .before .before .before .before)) (line-condition (c .before .before .before .before .before .before .before .before .before .before .before .before .before .before .before)))
+    let a
+    = c .before .before .before .before .before .before .before .before .before .before .before .before .before .before .before .args in
+    rw (c .same-at2 .ensures, c .before .before .before .before .before .before .before .same-at .ensures)
+    (match-is (a .r) (a .l) (asked-symbol (c .before .before .before .before .before .before .before .before .before .before .before
+    .before .before .before .before)) (asked-condition
+    (c .before .before .before .before .before .before .before .before .before .before .before .before .before .before .before))
+    (line-symbol (c .before .before .before .before .before .before .before .before .before .before .before .before .before .before
+    .before)) (line-condition (c .before .before .before .before .before .before .before .before .before .before .before .before
+    .before .before .before)))
 
 pub is-match-spec : {M : Type 1} → statement M
 is-match-spec =

@@ -26,7 +26,9 @@ paste-requires : tie.Need-paste-requires
 paste-requires c κs = search needs
 
 returns : tie.Need-returns
-returns c = rw (c .before .paste .ensures, c .before .before .before .before .before .put-byte .ensures) (key-made _ _ (control-long (c .before .before .before .before .before .before .before)))
+returns c =
+    rw (c .before .paste .ensures, c .before .before .before .before .before .put-byte .ensures)
+    (key-made _ _ (control-long (c .before .before .before .before .before .before .before)))
 
 pub key-of-spec : {M : Type 1} → statement M
 key-of-spec =

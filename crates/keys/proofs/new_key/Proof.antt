@@ -14,7 +14,8 @@ key-of-requires : tie.Need-key-of-requires
 key-of-requires c κs = search needs
 
 returns : tie.Need-returns
-returns c = c .key-of .ensures ∙ ap (λ (s : Sale). c .before .before .before .args .r .centre ∷ s .control) (c .before .before .new-sale .ensures)
+returns c =
+    c .key-of .ensures ∙ ap (λ (s : Sale). c .before .before .before .args .r .centre ∷ s .control) (c .before .before .new-sale .ensures)
 
 pub new-key-spec : {M : Type 1} → statement M
 new-key-spec = tie.close (tie.spec new-sale-requires key-of-requires returns)

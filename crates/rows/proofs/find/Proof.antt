@@ -22,7 +22,9 @@ abbrev listingIn : List ℕ → ℕ → Listing
 listingIn m i = rowAt m i .listing
 
 abbrev Inv-loop : tie.InvT-loop
-Inv-loop rows used symbol n i₀ i = (i ≤ n) × (n ≤ rowLimit (length rows)) × (first (isOf symbol) (tab (listingIn rows) i (n - i)) i ≡ listingOf symbol (usedSheet rows used))
+Inv-loop rows used symbol n i₀ i =
+    (i ≤ n) × (n ≤ rowLimit (length rows)) × (first (isOf symbol) (tab (listingIn rows) i (n - i)) i ≡ listingOf symbol
+    (usedSheet rows used))
 
 abbrev μ-loop : tie.MeasureT-loop
 μ-loop rows used symbol n i₀ i = n - i
@@ -32,7 +34,8 @@ symbol-long s = search needs
 
 -- the bytes compared are those of the row
 here : (s : tie.Start Inv-loop μ-loop) (i : ℕ)
-    → isOf (s .args .t3) (listingIn (s .args .rows .now) i) ≡ same (part (s .args .rows .now) (i * rowCell) (length (s .args .t3))) (s .args .t3)
+    → isOf (s .args .t3) (listingIn (s .args .rows .now) i)
+    ≡ same (part (s .args .rows .now) (i * rowCell) (length (s .args .t3))) (s .args .t3)
 unfolding rowFrom listingFrom
 here s i = rw (symbol-long s)
 
@@ -44,7 +47,11 @@ lesser-requires c κs = search needs
 
 loop-holds : tie.Need-loop-holds Inv-loop μ-loop
 unfolding usedRows
-loop-holds c = (omega arith, omega (arith, c .lesser .ensures, c .before .limit .ensures), rw (tab-map, sub-zero, c .lesser .ensures, c .before .limit .ensures))
+loop-holds c = (
+  omega arith,
+  omega (arith, c .lesser .ensures, c .before .limit .ensures),
+  rw (tab-map, sub-zero, c .lesser .ensures, c .before .limit .ensures),
+)
 
 mul-same-at : tie.Need-mul-same-at Inv-loop μ-loop
 mul-same-at c = search needs
@@ -59,7 +66,9 @@ returns : tie.Need-returns Inv-loop μ-loop
 returns c =
     let a = c .before .before .before .before .before .before .before .before .args in
     let l = c .before .before .before .before .loop in
-    sym (find-on (isOf (a .t3)) (listingIn (a .rows .now)) (l .i) _ (c .before .before .before .loop-test .taken) (here (c .before .before .before .before .before .before .before .before) (l .i) ∙ sym (c .before .same-at .ensures) ∙ c .if1 .taken)) ∙ l .inv .2
+    sym (find-on (isOf (a .t3)) (listingIn (a .rows .now)) (l .i) _ (c .before .before .before .loop-test .taken)
+    (here (c .before .before .before .before .before .before .before .before) (l .i) ∙ sym (c .before .same-at .ensures)
+    ∙ c .if1 .taken)) ∙ l .inv .2
 
 add-i : tie.Need-add-i Inv-loop μ-loop
 add-i c = search needs
@@ -70,8 +79,13 @@ loop-less c = search needs
 loop-again : tie.Need-loop-again Inv-loop μ-loop
 loop-again c =
     let a = c .before .before .before .before .before .before .before .before .args in
-    let l = c .before .before .before .before .loop in
-    (omega arith, l .inv .1, sym (find-off (isOf (a .t3)) (listingIn (a .rows .now)) (l .i) _ (c .before .before .before .loop-test .taken) (here (c .before .before .before .before .before .before .before .before) (l .i) ∙ sym (c .before .same-at .ensures) ∙ c .if1 .left)) ∙ l .inv .2)
+    let l = c .before .before .before .before .loop in (
+      omega arith,
+      l .inv .1,
+      sym (find-off (isOf (a .t3)) (listingIn (a .rows .now)) (l .i) _ (c .before .before .before .loop-test .taken)
+          (here (c .before .before .before .before .before .before .before .before) (l .i) ∙ sym (c .before .same-at .ensures)
+          ∙ c .if1 .left)) ∙ l .inv .2,
+    )
 
 returns-2 : tie.Need-returns-2 Inv-loop μ-loop
 returns-2 c =

@@ -53,7 +53,8 @@ returns c =
     let begun = named .before .before .before .before in
     let s = begun .before .before .before in
     let a = s .args in
-    row-stored (a .rows .now) _ _ _ (a .i * rowCell) (a .l) (symbol-long s) (named .paste .ensures) (closed .put4 .ensures) (ended .paste2 .ensures)
+    row-stored (a .rows .now) _ _ _ (a .i * rowCell) (a .l) (symbol-long s) (named .paste .ensures) (closed .put4 .ensures)
+    (ended .paste2 .ensures)
     ∙ sym (inside _ _ _ _ _ (begun .before .limit .ensures) (begun .if1 .taken))
 
 returns-2 : tie.Need-returns-2

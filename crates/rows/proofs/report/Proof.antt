@@ -35,8 +35,10 @@ returns : tie.Need-returns
 unfolding inRow
 returns c =
     let a = c .before .before .before .before .before .before .before .before .before .before .before .args in
-    report-stored (a .rows .now) _ _ (a .i * rowCell) (a .volume) (c .before .before .before .before .before .before .put-byte .ensures) (c .before .before .put8 .ensures)
-    ∙ sym (inside _ _ _ _ _ (c .before .before .before .before .before .before .before .before .before .limit .ensures) (c .before .before .before .before .before .before .before .before .if1 .taken))
+    report-stored (a .rows .now) _ _ (a .i * rowCell) (a .volume)
+    (c .before .before .before .before .before .before .put-byte .ensures) (c .before .before .put8 .ensures)
+    ∙ sym (inside _ _ _ _ _ (c .before .before .before .before .before .before .before .before .before .limit .ensures)
+    (c .before .before .before .before .before .before .before .before .if1 .taken))
 
 returns-2 : tie.Need-returns-2
 unfolding inRow

@@ -40,9 +40,14 @@ same-length c = search needs
 returns : tie.Need-returns
 unfolding inRow
 returns c =
-    let a = c .before .before .before .before .before .before .before .before .before .before .before .before .before .before .before .args in
-    summary-stored (a .rows .now) _ _ _ (a .i * rowCell) (a .high) (a .low) (c .before .before .before .before .before .before .before .before .before .before .put-byte .ensures) (c .before .before .before .before .before .before .put4 .ensures) (c .before .before .put42 .ensures)
-    ∙ sym (inside _ _ _ _ _ (c .before .before .before .before .before .before .before .before .before .before .before .before .before .limit .ensures) (c .before .before .before .before .before .before .before .before .before .before .before .before .if1 .taken))
+    let a
+    = c .before .before .before .before .before .before .before .before .before .before .before .before .before .before .before .args in
+    summary-stored (a .rows .now) _ _ _ (a .i * rowCell) (a .high) (a .low)
+    (c .before .before .before .before .before .before .before .before .before .before .put-byte .ensures)
+    (c .before .before .before .before .before .before .put4 .ensures) (c .before .before .put42 .ensures)
+    ∙ sym (inside _ _ _ _ _ (c .before .before .before .before .before .before .before .before .before .before .before .before
+    .before .limit .ensures) (c .before .before .before .before .before .before .before .before .before .before .before .before .if1
+    .taken))
 
 returns-2 : tie.Need-returns-2
 unfolding inRow

@@ -42,7 +42,9 @@ unfolding judgedBy
 returns-2 c =
     let asked = c .before .before .before .before in
     simp (read asked)
-    (c .plainly2 .ensures ∙ sym (due-event _ _ _ (sym (asked .is-due .ensures) ∙ c .before .before .before .if2 .taken) (sym (c .before .before .is-event .ensures) ∙ c .before .if3 .taken)))
+    (c .plainly2 .ensures
+    ∙ sym (due-event _ _ _ (sym (asked .is-due .ensures) ∙ c .before .before .before .if2 .taken)
+    (sym (c .before .before .is-event .ensures) ∙ c .before .if3 .taken)))
 
 judge-listed-requires : tie.Need-judge-listed-requires
 judge-listed-requires c κs = search needs
@@ -52,7 +54,9 @@ unfolding judgedBy
 returns-3 c =
     let asked = c .before .before .before .before in
     simp (read asked)
-    (c .judge-listed .ensures ∙ sym (due-listed _ _ _ (sym (asked .is-due .ensures) ∙ c .before .before .before .if2 .taken) (sym (c .before .before .is-event .ensures) ∙ c .before .if3 .left)))
+    (c .judge-listed .ensures
+    ∙ sym (due-listed _ _ _ (sym (asked .is-due .ensures) ∙ c .before .before .before .if2 .taken)
+    (sym (c .before .before .is-event .ensures) ∙ c .before .if3 .left)))
 
 plainly-requires-3 : tie.Need-plainly-requires-3
 plainly-requires-3 c κs = search needs

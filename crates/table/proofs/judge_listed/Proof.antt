@@ -26,7 +26,8 @@ returns : tie.Need-returns
 unfolding listedBy
 returns c =
     let a = c .before .before .before .before .before .before .before .args in
-    c .plainly .ensures ∙ sym (ap (listedAt (ledgerIn (a .lines .now) (a .used)) (a .kind) (a .r)) (sym (c .before .before .before .find .ensures) ∙ c .before .enum-told .given .1))
+    c .plainly .ensures ∙ sym (ap (listedAt (ledgerIn (a .lines .now) (a .used)) (a .kind) (a .r))
+    (sym (c .before .before .before .find .ensures) ∙ c .before .enum-told .given .1))
 
 returns-2 : tie.Need-returns-2
 unfolding listedBy
@@ -34,7 +35,8 @@ returns-2 c =
     let found = c .before .before .before .before in
     let a = found .before .before .before .before .args in
     ap (onRow _) (c .judge-trade .ensures)
-    ∙ sym (ap (listedAt (ledgerIn (a .lines .now) (a .used)) (a .kind) (a .r)) (sym (found .find .ensures) ∙ c .before .before .i .given .1))
+    ∙ sym (ap (listedAt (ledgerIn (a .lines .now) (a .used)) (a .kind) (a .r))
+    (sym (found .find .ensures) ∙ c .before .before .i .given .1))
 
 pub judge-listed-spec : {M : Type 1} → statement M
 judge-listed-spec =

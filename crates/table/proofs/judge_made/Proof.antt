@@ -46,13 +46,15 @@ returns : tie.Need-returns
 returns c =
     let found = c .before .before .before .before in
     let a = start found .args in
-    made-none (a .kind) (a .r) (a .lines .now) (a .used) (makes found) (made found (c .before .before .enum-told .given .1)) true (le-leb _ _ (rw (c .before .limit .ensures) at (c .if2 .taken)))
+    made-none (a .kind) (a .r) (a .lines .now) (a .used) (makes found) (made found (c .before .before .enum-told .given .1)) true
+    (le-leb _ _ (rw (c .before .limit .ensures) at (c .if2 .taken)))
 
 returns-2 : tie.Need-returns-2
 returns-2 c =
     let found = c .before .before .before .before in
     let a = start found .args in
-    made-none (a .kind) (a .r) (a .lines .now) (a .used) (makes found) (made found (c .before .before .enum-told .given .1)) false (lt-leb _ _ (rw (c .before .limit .ensures) at (c .if2 .left)))
+    made-none (a .kind) (a .r) (a .lines .now) (a .used) (makes found) (made found (c .before .before .enum-told .given .1)) false
+    (lt-leb _ _ (rw (c .before .limit .ensures) at (c .if2 .left)))
 
 returns-3 : tie.Need-returns-3
 returns-3 c =

@@ -58,7 +58,8 @@ returns-2 c =
     let got = c .before .before .before in
     let found = got .before .before .before .before in
     let a = start found .args in
-    sym (named-live (a .r) (a .lines .now) (a .used) _ (named found (got .before .before .i .given .1)) _ (got .get .ensures) (c .before .before .if1 .taken) true (sym (c .if2 .taken) ∙ c .before .is-match .ensures))
+    sym (named-live (a .r) (a .lines .now) (a .used) _ (named found (got .before .before .i .given .1)) _ (got .get .ensures)
+    (c .before .before .if1 .taken) true (sym (c .if2 .taken) ∙ c .before .is-match .ensures))
 
 returns-3 : tie.Need-returns-3
 returns-3 c =
@@ -66,7 +67,8 @@ returns-3 c =
     let found = got .before .before .before .before in
     let a = start found .args in
     c .plainly2 .ensures
-    ∙ sym (named-live (a .r) (a .lines .now) (a .used) _ (named found (got .before .before .i .given .1)) _ (got .get .ensures) (c .before .before .before .if1 .taken) false (sym (c .before .if2 .left) ∙ c .before .before .is-match .ensures))
+    ∙ sym (named-live (a .r) (a .lines .now) (a .used) _ (named found (got .before .before .i .given .1)) _ (got .get .ensures)
+    (c .before .before .before .if1 .taken) false (sym (c .before .if2 .left) ∙ c .before .before .is-match .ensures))
 
 returns-4 : tie.Need-returns-4
 returns-4 c =
@@ -74,7 +76,8 @@ returns-4 c =
     let found = got .before .before .before .before in
     let a = start found .args in
     c .plainly3 .ensures
-    ∙ sym (named-dead (a .r) (a .lines .now) (a .used) _ (named found (got .before .before .i .given .1)) _ (got .get .ensures) (c .before .if1 .left))
+    ∙ sym (named-dead (a .r) (a .lines .now) (a .used) _ (named found (got .before .before .i .given .1)) _ (got .get .ensures)
+    (c .before .if1 .left))
 
 pub judge-named-spec : {M : Type 1} → statement M
 judge-named-spec =

@@ -25,7 +25,8 @@ returns c =
     let killed = c .before .before .before .before .before .before .before in
     let got = killed .before .before in
     let a = got .before .before .before .args in
-    corrected-stored _ _ _ _ _ (a .r) _ _ (c .before .before .put .ensures) (killed .kill .ensures) (c .before .before .before .corrected-line .ensures) (got .get .ensures)
+    corrected-stored _ _ _ _ _ (a .r) _ _ (c .before .before .put .ensures) (killed .kill .ensures)
+    (c .before .before .before .corrected-line .ensures) (got .get .ensures)
 
 pub correct-spec : {M : Type 1} → statement M
 correct-spec =

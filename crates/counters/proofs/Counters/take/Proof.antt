@@ -25,7 +25,8 @@ returns : tie.Need-returns
 unfolding takenBy
 returns c =
     let moved = c .before .before .before .before in
-    simp (sym (c .before .before .before .is-event .ensures) ∙ c .before .before .if1 .taken) (rw (c .advance .ensures, c .before .phase-of .ensures, moved .count-taken .ensures, moved .before .use-up .ensures))
+    simp (sym (c .before .before .before .is-event .ensures) ∙ c .before .before .if1 .taken)
+    (rw (c .advance .ensures, c .before .phase-of .ensures, moved .count-taken .ensures, moved .before .use-up .ensures))
 
 makes-new-requires : tie.Need-makes-new-requires
 makes-new-requires c κs = search needs

@@ -30,12 +30,14 @@ add-t12 c = search needs
 returns-3 : tie.Need-returns-3
 returns-3 c =
     let a = c .before .before .before .before .before .before .args in
-    head-whole (a .part .now) (a .at) _ (c .before .before .before .before .if1 .left) (c .before .before .body-length .ensures) (c .before .if2 .left) (c .if3 .taken)
+    head-whole (a .part .now) (a .at) _ (c .before .before .before .before .if1 .left) (c .before .before .body-length .ensures)
+    (c .before .if2 .left) (c .if3 .taken)
 
 returns-4 : tie.Need-returns-4
 returns-4 c =
     let a = c .before .before .before .before .before .before .args in
-    head-short (a .part .now) (a .at) _ (c .before .before .before .before .if1 .left) (c .before .before .body-length .ensures) (c .before .if2 .left) (c .if3 .left)
+    head-short (a .part .now) (a .at) _ (c .before .before .before .before .if1 .left) (c .before .before .body-length .ensures)
+    (c .before .if2 .left) (c .if3 .left)
 
 pub head-at-spec : {M : Type 1} → statement M
 head-at-spec =
