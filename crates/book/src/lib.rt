@@ -125,7 +125,8 @@ fn use_number(c: Counters, rows: &mut [u8], lines: &mut [u8], message: &[u8]) ->
 
 // 17, 1, 2, 3, or `Done` for the wanted number.
 fn judge_arrival(c: Counters, rows: &[u8], lines: &[u8], number: u64) -> Answer
-    ensures { λ a. ⌜ a ≡ answerOf (given (numberCases (lent c (now (rows .entry)) (now (lines .entry))) number) .number) ⌝ }
+    ensures { λ a. ⌜ a
+        ≡ answerOf (given (numberCases (lent c (now (rows .entry)) (now (lines .entry))) number) .number) ⌝ }
 {
     if c.is_sound(rows.len(), lines.len()) {
         judge_number(c.wanted, number)

@@ -264,7 +264,7 @@ row-up change w ws (At i) = refl
 
 -- one row changed, that of the message's symbol: g and h are what the clerk works out for the rows before and after
 module _ (r : Record) (change : Row → Row) (g h : Listing → Row)
-(hit : (l : Listing) → same (l .symbol) (r .symbol) ≡ true → change (g l) ≡ h l)
+    (hit : (l : Listing) → same (l .symbol) (r .symbol) ≡ true → change (g l) ≡ h l)
     (miss : (l : Listing) → same (l .symbol) (r .symbol) ≡ false → g l ≡ h l) where
   others : (sheet : List Listing) → isIn (r .symbol) (symbolsIn sheet) ≡ false → map g sheet ≡ map h sheet
   others [] d = refl
@@ -383,8 +383,14 @@ module _ (sheet : List Listing) (limit : ℕ) where
     unfolding taking bookBy
     taking-is =
         let r = readOf m .found in
-        rw (phase-step (suc n) r es, rows-step (suc n) r es sheet d, lines-step (suc n) r es u, add-one (suc n),
-        add-one (length es), sym (lines-count (suc n) r es))
+        rw (
+          phase-step (suc n) r es,
+          rows-step (suc n) r es sheet d,
+          lines-step (suc n) r es u,
+          add-one (suc n),
+          add-one (length es),
+          sym (lines-count (suc n) r es),
+        )
 
     after-is : after limit (bookBy sheet es n) m ≡ bookBy sheet (cond (eqb (answerTo sheet limit es m) 0) more es) (suc n)
     unfolding after usingUp bookBy

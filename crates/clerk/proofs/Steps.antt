@@ -96,8 +96,11 @@ module _ (c : Counters) (h : Small c) where
   taken-is : (r : Record) → takenBy (kindIn r) (r .event) c ≡ moved r c
   unfolding takenBy
   taken-is r =
-      rw (up-is (c .wanted) (omega (arith, h .wanted)), up-is (c .taken) (omega (arith, h .taken)),
-      up-is (c .lines) (omega (arith, h .lines)))
+      rw (
+        up-is (c .wanted) (omega (arith, h .wanted)),
+        up-is (c .taken) (omega (arith, h .taken)),
+        up-is (c .lines) (omega (arith, h .lines)),
+      )
       (go (kindIn r))
     where
       with-phase : ℕ → ℕ → Counters
@@ -117,7 +120,7 @@ module _ (c : Counters) (h : Small c) where
 -- ---- a taken message: the lines
 
 module _ (m : List ℕ) (used n : ℕ) (r : Record) (fits : RecordFits r) (small : n < 2 ^ 32) (bytes : Bytes m)
-(within : used ≤ lineLimit (length m)) where
+    (within : used ≤ lineLimit (length m)) where
   abbrev old : List Line
   old = usedLines m used
 
@@ -277,8 +280,13 @@ module _ (s : State) (a : Arrival) (safe : soundIn s ≡ true) where
           let no : Wanted true (wantedIn s) (a .number) → ⊥
           = λ w. eqb-false number 0 t (number-wanted true (wantedIn s) (a .number) .1 w) in
           let u
-          = refused-keeps s .unused a (λ h w f. no (record { sound = refl; wanted = w; least = omega
-          (arith, g .least, w); greatest = f })) in
+          = refused-keeps s .unused a (λ h w f. no (record {
+            sound = refl;
+            wanted = w;
+            least = omega
+                (arith, g .least, w);
+            greatest = f;
+          })) in
           left (u .1) (rw t)
 
 -- ---- the calls as steps
@@ -363,14 +371,26 @@ module _ (s : State) (safe : soundIn s ≡ true) where
 within-sound : (c : Counters) (rows lines : ℕ) → Within c rows lines → sound c rows lines ≡ true
 unfolding sound
 within-sound c rows lines w =
-    rw (le-leb _ _ (w .least), le-leb _ _ (w .greatest), le-leb _ _ (w .rowsFit), le-leb _ _ (w .linesFit), le-leb _ _ (w .phased),
-    le-leb _ _ (w .takenFit))
+    rw (
+      le-leb _ _ (w .least),
+      le-leb _ _ (w .greatest),
+      le-leb _ _ (w .rowsFit),
+      le-leb _ _ (w .linesFit),
+      le-leb _ _ (w .phased),
+      le-leb _ _ (w .takenFit),
+    )
 
 pub fresh-sound : (rows lines : ℕ) → sound freshCounters rows lines ≡ true
 fresh-sound rows lines =
     within-sound freshCounters rows lines
-    (record { least = omega arith; greatest = omega arith; rowsFit = omega arith; linesFit = omega arith; phased = omega arith;
-    takenFit = omega arith })
+    (record {
+      least = omega arith;
+      greatest = omega arith;
+      rowsFit = omega arith;
+      linesFit = omega arith;
+      phased = omega arith;
+      takenFit = omega arith;
+    })
 
 either-fits : (t : Bool) (a b n : ℕ) → (t ≡ true → a ≤ n) → b ≤ n → cond t a b ≤ n
 either-fits true a b n f g = f refl
@@ -415,8 +435,14 @@ module _ (s : State) (safe : soundIn s ≡ true) where
       let w = bounds s safe in
       rw (used-up-is (s .counters) (small s safe))
       (within-sound _ R L
-      (record { least = omega arith; greatest = omega arith; rowsFit = w .rowsFit; linesFit = w .linesFit; phased = w .phased;
-      takenFit = omega arith }))
+      (record {
+        least = omega arith;
+        greatest = omega arith;
+        rowsFit = w .rowsFit;
+        linesFit = w .linesFit;
+        phased = w .phased;
+        takenFit = omega arith;
+      }))
 
   pub deliver-sound : (a : Arrival) → soundIn (delivered s a .state) ≡ true
   deliver-sound a = rw (touches-only s .rowsLength a, touches-only s .linesLength a) (go (ended s a safe))
@@ -439,8 +465,14 @@ module _ (s : State) (safe : soundIn s ≡ true) where
           let room = list-room s safe l (eqb-true _ 0 t) in
           rw (one-row-is (s .counters) (small s safe))
           (within-sound _ R L
-          (record { least = w .least; greatest = w .greatest; rowsFit = omega arith; linesFit = w .linesFit; phased = w .phased;
-          takenFit = w .takenFit }))
+          (record {
+            least = w .least;
+            greatest = w .greatest;
+            rowsFit = omega arith;
+            linesFit = w .linesFit;
+            phased = w .phased;
+            takenFit = w .takenFit;
+          }))
       go l false t = safe
 
       kept : (l : Listing) → sound (listed s l .state .counters) R L ≡ true

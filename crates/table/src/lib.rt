@@ -126,7 +126,8 @@ fn judge_listed(
     kind: Kind,
     r: Record,
 ) -> Verdict
-    ensures { λ v. ⌜ v ≡ Working.listedBy (usedSheet (now (rows .entry)) listed) (ledgerIn (now (lines .entry)) used) kind r ⌝ }
+    ensures { λ v. ⌜ v
+        ≡ Working.listedBy (usedSheet (now (rows .entry)) listed) (ledgerIn (now (lines .entry)) used) kind r ⌝ }
 {
     let symbol = r.symbol;
     match rows::find(rows, listed, symbol) {
@@ -154,7 +155,8 @@ pub fn judge(
     kind: Kind,
     q: Reading,
 ) -> Verdict
-    ensures { λ v. ⌜ v ≡ Working.judgedBy (basisIn phase (now (rows .entry)) listed (now (lines .entry)) used) kind q ⌝ }
+    ensures { λ v. ⌜ v
+        ≡ Working.judgedBy (basisIn phase (now (rows .entry)) listed (now (lines .entry)) used) kind q ⌝ }
 {
     let a = q.answer;
     let r = q.found;

@@ -235,8 +235,7 @@ bookShows c =
 
 unfoldable pub clerkShows : Case → List RowShown
 unfolding bookShows Clerk.sheetFrom Clerk.phaseAfter Clerk.originOf Clerk.tradesBut Clerk.takenOf Clerk.summaryOf Clerk.reportedOf
-Clerk.rowOf
-    Clerk.shownBy Arrivals.upto
+    Clerk.rowOf Clerk.shownBy Arrivals.upto
 clerkShows c =
     let es = takenOf (sheetOf (rowLimit rowsRoom) (c .sheet)) (lineLimit linesRoom) (upto (dayOf (c .day)) (c .used)) in
     map (shownBy es) (c .sheet)
