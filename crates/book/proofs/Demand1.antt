@@ -14,7 +14,7 @@ use Rattle.octets.specs.Run.{Bytes}
 use Rattle.numbers.proofs.Laws.{be-below}
 use Rattle.answers.specs.Answers.{numberOf, answerOf}
 use Rattle.records.specs.Fits.{RecordFits}
-use Rattle.message.specs.Reading.{readOf}
+use Rattle.message.specs.Reader.{readOf}
 use Rattle.answers.specs.declared.Answer.{Answer}
 use Rattle.records.specs.declared.Record.{Record}
 use Rattle.message.proofs.Fitting.{read-fits}

@@ -12,7 +12,7 @@ use Rattle.texts.specs.Text.{text}
 use Rattle.answers.specs.Answers.{numberOf, answerOf}
 use Rattle.answers.specs.declared.Answer.{Answer}
 use Rattle.message.specs.declared.Reading.{Reading}
-use Rattle.message.specs.Reading.{readOf}
+use Rattle.message.specs.Reader.{readOf}
 use Rattle.cells.specs.declared.Found.the-variants.{Nothing, At}
 use Rattle.rows.specs.declared.Row.{Row}
 use Rattle.walk.specs.declared.Figures.{Figures}

@@ -6,7 +6,7 @@ use mathlib.Core.Bool.{cond, _&&_}
 use lib.Dec.{eqb, leb}
 use lib.ListN.{length}
 use Rattle.answers.specs.Answers.{answerOf}
-use Rattle.message.specs.Reading.{readOf}
+use Rattle.message.specs.Reader.{readOf}
 use Rattle.message.specs.declared.Reading.{Reading}
 use Rattle.lines.specs.Lines.{usedLines, lineLimit, lineWith}
 use Rattle.rows.specs.Rows.{usedRows, rowLimit, rowWith, rowIn, withRow}

@@ -4,12 +4,12 @@
 use answers::Answer;
 ghost use mathlib.Core.Path.{_≡_};
 ghost use Rattle.answers.specs.Answers.{numberOf};
-ghost use Rattle.message.specs.Reading.{readOf};
-ghost use Rattle.message.specs.Writing.{writeAnswer, writeOut};
+ghost use Rattle.message.specs.Reader.{readOf};
+ghost use Rattle.message.specs.Writer.{writeAnswer, writeOut};
 ghost use Rattle.book.specs.Counting.{freshCounters};
 ghost use Rattle.book.specs.Calls.{listSaid, listRows, deliverSaid, deliverRows, deliverLines, rowShown};
 ghost use Rattle.words.specs.Words.{countersOf, counterWords, rowWords};
-ghost use Rattle.packed.specs.Packed.{recordOf, recordBytes};
+ghost use Rattle.records.specs.Packed.{recordOf, recordBytes};
 ghost use Rattle.cabinet.specs.Sizes.{sizeOf};
 
 // The number of an answer in the table: what every call but the first and the last tells.

@@ -12,7 +12,7 @@ use lib.Dec.{eqb}
 use Rattle.table.specs.Table.{lowest, numberTable}
 use Rattle.table.proofs.Tables.{number-wanted}
 use Rattle.clerk.specs.Steps.{Book, next, after, taking, usingUp, content}
-use Rattle.message.specs.Reading.{readOf}
+use Rattle.message.specs.Reader.{readOf}
 use Rattle.clerk.specs.Arrivals.{run, Largest, Arrival, numbers, Copies, upto, play, deliverEach}
 
 -- ---- how many come in order

@@ -38,7 +38,8 @@ module _ (m : List ℕ) (b : Bytes m) where
   one : (j : Form) (w : ℕ) (e : Entry) → moved j w e m ≡ writes j w (stands e m)
   one j w (at g o n k) = go (alike j w k n) refl
     where
-      go : (t : Bool) → alike j w k n ≡ t → cond (alike j w k n) (part m o n) (writes j w (reads k (part m o n))) ≡ writes j w (reads k (part m o n))
+      go : (t : Bool) → alike j w k n ≡ t
+          → cond (alike j w k n) (part m o n) (writes j w (reads k (part m o n))) ≡ writes j w (reads k (part m o n))
       go true e = rw e (copied j w k o n e)
       go false e = rw e
 
@@ -46,7 +47,8 @@ module _ (m : List ℕ) (b : Bytes m) where
   fetched [] j w f = refl
   fetched (e ∷ es) j w f = go (is f (fieldOf e)) refl (fetched es j w f)
     where
-      go : (t : Bool) → is f (fieldOf e) ≡ t → fetch es m j w f ≡ writes j w (look es m f) → fetch (e ∷ es) m j w f ≡ writes j w (look (e ∷ es) m f)
+      go : (t : Bool) → is f (fieldOf e) ≡ t → fetch es m j w f ≡ writes j w (look es m f)
+          → fetch (e ∷ es) m j w f ≡ writes j w (look (e ∷ es) m f)
       go true q r = rw q (one j w e)
       go false q r = rw q r
 
@@ -62,7 +64,8 @@ all-both v (x ∷ xs) ys = ap (λ (t : Bool). eqb x v && t) (all-both v xs ys) �
 
 digit-zero : (x y : ℕ) → eqb (x * 256 + y) 0 ≡ eqb x 0 && eqb y 0
 digit-zero zero y = rw (zero-mul, zero-add)
-digit-zero (suc x) y = ne-eqb (suc x * 256 + y) 0 (λ e. omega arith) ∙ sym (ap (λ (t : Bool). t && eqb y 0) (ne-eqb (suc x) 0 (λ e. omega arith)))
+digit-zero (suc x) y =
+    ne-eqb (suc x * 256 + y) 0 (λ e. omega arith) ∙ sym (ap (λ (t : Bool). t && eqb y 0) (ne-eqb (suc x) 0 (λ e. omega arith)))
 
 after-zero : (x : ℕ) (xs : List ℕ) → eqb (beAfter x xs) 0 ≡ eqb x 0 && all 0 xs
 after-zero x [] = sym (and-true (eqb x 0))
@@ -96,7 +99,8 @@ module _ (b : List ℕ) where
   run-zero (at g o n (chars p) ∷ es) f c = found-zero g o n (chars p) es f refl (run-zero es f c)
 
   -- several fields are, exactly if their bytes together are
-  pub runs-zero : (es : List Entry) (t : Bool) (fs : List Field) → clear es ≡ true → allFrom (λ f. isZero (look es b f)) t fs ≡ t && all 0 (runs es b fs)
+  pub runs-zero : (es : List Entry) (t : Bool) (fs : List Field) → clear es ≡ true
+      → allFrom (λ f. isZero (look es b f)) t fs ≡ t && all 0 (runs es b fs)
   runs-zero es t [] c = sym (and-true t)
   runs-zero es t (f ∷ fs) c =
       runs-zero es (t && isZero (look es b f)) fs c

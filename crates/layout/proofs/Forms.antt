@@ -1,20 +1,22 @@
 -- The laws of each form: a value that fits is read as it was written, and bytes that are plain are written as they were read.
 -- Assumes nothing.
-use mathlib.Core.Path.{_≡_, refl, ap, sym}
-use mathlib.Core.Bool.{Bool, true, false, _&&_, and-eq-true-iff}
+use mathlib.Core.Path.{_≡_, refl, ap, sym, _∙_}
+use mathlib.Core.Bool.{Bool, true, false, not, _&&_, and-eq-true-iff}
 use mathlib.Core.List.{List, [], _∷_}
-use Prim.Native.Nat.{ℕ, _^_}
+use Prim.Native.Nat.{ℕ, zero, suc, _^_, _<_}
+use native.Mathlib.Nat.{pow-succ'}
 use native.Mathlib.Omega.{arith}
 use borrow.Author.Tests.{eqb-true, eq-eqb, leb-true, ltb-true, lt-ltb}
-use lib.Dec.{eqb, leb, ltb}
-use lib.ListN.{length}
+use lib.Dec.{eqb, leb, ltb, lit<}
+use lib.ListN.{length, replicate}
 use Rattle.octets.specs.Run.{tab, part, Bytes}
 use Rattle.octets.proofs.Laws.{part-length}
 use Rattle.numbers.specs.Number.{be, digits}
 use Rattle.numbers.proofs.Laws.{digits-length, be-below}
 use Rattle.numbers.proofs.Trips.{be-digits, digits-part}
-use Rattle.layout.specs.Values.{Value, number, text, isText, Room, octet, num, txt, typed, zeroIn}
-use Rattle.layout.specs.Forms.{Range, any, upTo, within, inside, Form, byte, big, chars, reads, writes, keeps, spells, plain, fits, topped, suits}
+use Rattle.layout.specs.Values.{Value, number, text, isText, Room, octet, num, txt, typed, sized, zeroIn}
+use Rattle.layout.specs.Forms.{Range, any, upTo, within, inside, Form, byte, big, chars, reads, writes, keeps, spells, plain}
+use Rattle.layout.specs.Forms.{fits, topped, suits}
 
 pub both : {a b : Bool} → a && b ≡ true → (a ≡ true) × (b ≡ true)
 both {a} {b} e = and-eq-true-iff a b .0 e
@@ -99,3 +101,52 @@ pub form-spells : (k : Form) (n : ℕ) (v : Value) (z : Room) → suits k n z �
 form-spells (byte p) n v z s f = refl
 form-spells (big p) n v z s f = refl
 form-spells (chars p) n v z s f = refl
+
+-- how long what is written is, whatever number it is
+pub form-sized : (k : Form) (n : ℕ) (v : Value) (z : Room) → suits k n z ≡ true → sized z v ≡ true → length (writes k n v) ≡ n
+form-sized (byte p) n (number x) octet s y = sym (eqb-true n 1 s)
+form-sized (byte p) n (text xs) octet s y = clash y
+form-sized (byte p) n v (num b) s y = clash s
+form-sized (byte p) n v (txt c) s y = clash s
+form-sized (big r) n v octet s y = clash s
+form-sized (big r) n (number x) (num b) s y = digits-length n x
+form-sized (big r) n (text xs) (num b) s y = clash y
+form-sized (big r) n v (txt c) s y = clash s
+form-sized (chars p) n v octet s y = clash s
+form-sized (chars p) n v (num b) s y = clash s
+form-sized (chars p) n (number x) (txt c) s y = clash y
+form-sized (chars p) n (text xs) (txt c) s y = eqb-true (length xs) c y ∙ eqb-true c n s
+
+-- what is read has its length, and so has what is of its type
+pub read-sized : (k : Form) (m : List ℕ) (o n : ℕ) (z : Room) → suits k n z ≡ true → sized z (reads k (part m o n)) ≡ true
+read-sized (byte p) m o n octet s = refl
+read-sized (byte p) m o n (num b) s = clash s
+read-sized (byte p) m o n (txt c) s = clash s
+read-sized (big r) m o n octet s = clash s
+read-sized (big r) m o n (num b) s = refl
+read-sized (big r) m o n (txt c) s = clash s
+read-sized (chars p) m o n octet s = clash s
+read-sized (chars p) m o n (num b) s = clash s
+read-sized (chars p) m o n (txt c) s = eq-eqb (length (part m o n)) c (part-length m o n ∙ sym (eqb-true c n s))
+
+pub typed-sized : (z : Room) (v : Value) → typed z v ≡ true → sized z v ≡ true
+typed-sized octet (number x) y = refl
+typed-sized octet (text xs) y = y
+typed-sized (num b) (number x) y = refl
+typed-sized (num b) (text xs) y = y
+typed-sized (txt c) (number x) y = y
+typed-sized (txt c) (text xs) y = y
+
+-- a zero is of its type
+pub zero-typed : (z : Room) → typed z (zeroIn z) ≡ true
+zero-typed octet = refl
+zero-typed (num c) = lt-ltb 0 (2 ^ c) (two-pos c)
+  where
+    two-pos : (c : ℕ) → 0 < 2 ^ c
+    two-pos zero = lit< tt
+    two-pos (suc c) = omega (arith, two-pos c, pow-succ' 2 c)
+zero-typed (txt c) = eq-eqb (length (replicate c 0)) c (long c)
+  where
+    long : (c : ℕ) → length (replicate {A = ℕ} c 0) ≡ c
+    long zero = refl
+    long (suc c) = ap suc (long c)

@@ -1,36 +1,22 @@
 -- What is read from bytes has room in a record.
 -- Assumes nothing.
-use mathlib.Core.Path.{_≡_, refl, ap, sym, _∙_}
+use mathlib.Core.Path.{_≡_, refl, sym, _∙_}
 use mathlib.Core.Bool.{Bool, true, false, _&&_}
 use mathlib.Core.List.{List, [], _∷_}
-use Prim.Native.Nat.{ℕ, zero, suc, _^_, _<_}
-use native.Mathlib.Nat.{pow-succ'}
+use Prim.Native.Nat.{ℕ, _^_, _<_}
 use native.Mathlib.Omega.{arith}
 use borrow.Author.Tests.{eqb-true, eq-eqb, leb-true, lt-ltb}
-use lib.Dec.{eqb, lit<}
-use lib.ListN.{length, replicate}
+use lib.Dec.{eqb}
+use lib.ListN.{length}
 use Rattle.octets.specs.Run.{part, Bytes}
 use Rattle.octets.proofs.Laws.{part-length}
 use Rattle.numbers.specs.Number.{be}
 use Rattle.numbers.proofs.Laws.{be-below}
-use Rattle.layout.specs.Values.{Field, Value, Room, octet, num, txt, roomOf, typed, Typed, zeroIn, is}
+use Rattle.layout.specs.Values.{Field, Value, Room, octet, num, txt, roomOf, typed, Typed, is}
 use Rattle.layout.specs.Forms.{Form, byte, big, chars, reads, narrow}
 use Rattle.layout.specs.Tables.{Entry, at, look, allNarrow}
-use Rattle.layout.proofs.Forms.{both, clash}
+use Rattle.layout.proofs.Forms.{both, clash, zero-typed}
 use Rattle.layout.proofs.Tables.{same-field}
-
-zero-typed : (z : Room) → typed z (zeroIn z) ≡ true
-zero-typed octet = refl
-zero-typed (num c) = lt-ltb 0 (2 ^ c) (two-pos c)
-  where
-    two-pos : (c : ℕ) → 0 < 2 ^ c
-    two-pos zero = lit< tt
-    two-pos (suc c) = omega (arith, two-pos c, pow-succ' 2 c)
-zero-typed (txt c) = eq-eqb (length (replicate c 0)) c (long c)
-  where
-    long : (c : ℕ) → length (replicate {A = ℕ} c 0) ≡ c
-    long zero = refl
-    long (suc c) = ap suc (long c)
 
 module _ (m : List ℕ) (b : Bytes m) where
   one-typed : (k : Form) (o n : ℕ) (z : Room) → narrow k n z ≡ true → typed z (reads k (part m o n)) ≡ true

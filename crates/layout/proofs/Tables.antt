@@ -12,10 +12,16 @@ use lib.Dec.{eqb}
 use lib.ListN.{length, drop, getD, length-append}
 use Rattle.octets.specs.Run.{tab, part, Bytes}
 use Rattle.octets.proofs.Trips.{join, whole, walk, here, zeros}
-use Rattle.layout.specs.Values.{Field, letter, time, event, centre, symbol, class, control, price, size, condition, newControl, newPrice, newSize, newCondition, high, low, close, consolidated, Value, number, text, Values, isText, isZero, Room, octet, num, txt, roomOf, typed, Typed, zeroIn, zeroOf, allFields, placeOf, is}
+use Rattle.layout.specs.Values.{Field, letter, time, event, centre, symbol, class, control, price, size, condition, newControl}
+use Rattle.layout.specs.Values.{newPrice, newSize, newCondition, high, low, close, consolidated, Value, number, text, Values}
+use Rattle.layout.specs.Values.{isText, isZero, Room, octet, num, txt, roomOf, typed, Typed, sized, Sized, zeroIn, zeroOf}
+use Rattle.layout.specs.Values.{allFields, placeOf, is}
 use Rattle.layout.specs.Forms.{Form, byte, big, chars, reads, writes, keeps, spells, plain, fits, suits}
-use Rattle.layout.specs.Tables.{Entry, at, Layout, fieldOf, offsetOf, widthOf, formOf, lacks, distinct, follows, total, isByte, marks, tiles, bytesAt, stands, look, written, Each, without, lacked, Obeys, Lawful, allFrom, keptBy, lawfulBy, fitsBy, speltBy, plainBy, obeysBy}
-use Rattle.layout.proofs.Forms.{both, clash, form-length, form-back, form-again, form-kind, form-fits, form-spells}
+use Rattle.layout.specs.Tables.{Entry, at, Layout, fieldOf, offsetOf, widthOf, formOf, lacks, distinct, follows, total, isByte}
+use Rattle.layout.specs.Tables.{marks, tiles, bytesAt, stands, look, written, Each, without, lacked, Obeys, Lawful, allFrom}
+use Rattle.layout.specs.Tables.{keptBy, lawfulBy, fitsBy, speltBy, plainBy, obeysBy}
+use Rattle.layout.proofs.Forms.{both, clash, form-length, form-back, form-again, form-kind, form-fits, form-spells, form-sized}
+use Rattle.layout.proofs.Forms.{read-sized, typed-sized, zero-typed}
 
 -- ---- a test of each element, and what it says
 
@@ -166,7 +172,8 @@ module _ (v : Values) where
   fit e = fits (formOf e) (widthOf e) (v (fieldOf e))
 
   -- an entry's bytes are where they were written, and the rest stands behind them
-  placed : (m : List ℕ) (g : Field) (a n : ℕ) (k : Form) (es : List Entry) (o : ℕ) → follows o (at g a n k ∷ es) ≡ true → fits k n (v g) ≡ true
+  placed : (m : List ℕ) (g : Field) (a n : ℕ) (k : Form) (es : List Entry) (o : ℕ) → follows o (at g a n k ∷ es) ≡ true
+      → fits k n (v g) ≡ true
       → drop o m ≡ written (at g a n k ∷ es) v → (part m a n ≡ writes k n (v g)) × (drop (o + n) m ≡ written es v)
   placed m g a n k es o s t d =
       let q = both (both s .0) in
@@ -185,7 +192,8 @@ module _ (v : Values) where
       let y : reads k (part m a n) ≡ v g = ap (reads k) (x .0) ∙ form-back k n (v g) (roomOf g) (q .1) (u .0) in
       go (is f g) refl y (λ z. back m f es (o + n) (p .1) (u .1) (x .1) z)
     where
-      go : (t : Bool) → is f g ≡ t → reads k (part m a n) ≡ v g → ((lacks f es ≡ true → zeroOf f ≡ v f) → look es m f ≡ v f) → look (at g a n k ∷ es) m f ≡ v f
+      go : (t : Bool) → is f g ≡ t → reads k (part m a n) ≡ v g → ((lacks f es ≡ true → zeroOf f ≡ v f) → look es m f ≡ v f)
+          → look (at g a n k ∷ es) m f ≡ v f
       go true e y r = rw e (y ∙ ap v (sym (same-field f g e)))
       go false e y r = rw e (r (λ h. z (rw e h)))
 
@@ -201,13 +209,12 @@ module _ (v : Values) where
       let y : spells k (part m a n) ≡ true = ap (spells k) (x .0) ∙ form-spells k n (v g) (roomOf g) (q .1) (u .0) in
       rw y (passes m es (o + n) (p .1) (u .1) (x .1))
 
-  written-length : (es : List Entry) (o : ℕ) → follows o es ≡ true → allFrom fit true es ≡ true → length (written es v) ≡ total es
-  written-length [] o s t = refl
-  written-length (at g a n k ∷ es) o s t =
+  written-length : (es : List Entry) (o : ℕ) → follows o es ≡ true → Sized v → length (written es v) ≡ total es
+  written-length [] o s y = refl
+  written-length (at g a n k ∷ es) o s y =
       let p = both s in
       let q = both {a = eqb a o} (p .0) in
-      let u = all-first fit (fits k n (v g)) es t in
-      simp (length-append, form-length k n (v g) (roomOf g) (q .1) (u .0), written-length es (o + n) (p .1) (u .1))
+      simp (length-append, form-sized k n (v g) (roomOf g) (q .1) (y g), written-length es (o + n) (p .1) y)
 
   -- what keeps its rules has room
   fit-all : (es : List Entry) (o : ℕ) → follows o es ≡ true → Typed v → allFrom (λ e. keeps (formOf e) (v (fieldOf e))) true es ≡ true
@@ -259,7 +266,8 @@ module _ (es : List Entry) (v : Values) where
           all-first (λ x. isZero (v x)) (isZero (v g)) (without es gs) c .1
       rest false n = rw n at e
 
-      go : (t : Bool) → is f g ≡ t → (allFrom (λ x. isZero (v x)) true (without es gs) ≡ true → has f gs ≡ true → isZero (v f) ≡ true) → isZero (v f) ≡ true
+      go : (t : Bool) → is f g ≡ t → (allFrom (λ x. isZero (v x)) true (without es gs) ≡ true → has f gs ≡ true → isZero (v f) ≡ true)
+          → isZero (v f) ≡ true
       go true q r = here-g (same-field f g q)
       go false q r = r (rest (lacks g es) refl) (rw q at h)
 
@@ -280,8 +288,22 @@ read-kind (at g a n k ∷ es) m o f s =
     let q = both {a = eqb a o} (p .0) in
     go (is f g) refl (q .1) (read-kind es m (o + n) f (p .1))
   where
-    go : (t : Bool) → is f g ≡ t → suits k n (roomOf g) ≡ true → isText (look es m f) ≡ isText (zeroOf f) → isText (look (at g a n k ∷ es) m f) ≡ isText (zeroOf f)
+    go : (t : Bool) → is f g ≡ t → suits k n (roomOf g) ≡ true → isText (look es m f) ≡ isText (zeroOf f)
+        → isText (look (at g a n k ∷ es) m f) ≡ isText (zeroOf f)
     go true e u r = rw (e, same-field f g e) (form-kind k n (roomOf g) (part m a n) u)
+    go false e u r = rw e r
+
+-- and has its length
+look-sized : (es : List Entry) (m : List ℕ) (o : ℕ) (f : Field) → follows o es ≡ true → sized (roomOf f) (look es m f) ≡ true
+look-sized [] m o f s = typed-sized (roomOf f) (zeroOf f) (zero-typed (roomOf f))
+look-sized (at g a n k ∷ es) m o f s =
+    let p = both s in
+    let q = both {a = eqb a o} (p .0) in
+    go (is f g) refl (q .1) (look-sized es m (o + n) f (p .1))
+  where
+    go : (t : Bool) → is f g ≡ t → suits k n (roomOf g) ≡ true → sized (roomOf f) (look es m f) ≡ true
+        → sized (roomOf f) (look (at g a n k ∷ es) m f) ≡ true
+    go true e u r = rw (e, same-field f g e) (read-sized k m a n (roomOf g) u)
     go false e u r = rw e r
 
 -- ---- what is said is what is tested
@@ -318,7 +340,8 @@ module _ (l : Layout) where
 
   pub is-lawful : (v : Values) → Lawful l v → lawfulBy l v ≡ true
   unfolding lawfulBy keptBy
-  is-lawful v w = rw (each-all (λ e. keeps (formOf e) (v (fieldOf e))) (l .entries) (w .kept)) (each-all (λ f. isZero (v f)) (lacked l) (w .empty))
+  is-lawful v w =
+      rw (each-all (λ e. keeps (formOf e) (v (fieldOf e))) (l .entries) (w .kept)) (each-all (λ f. isZero (v f)) (lacked l) (w .empty))
 
 -- ---- every layout that is tiled
 
@@ -343,6 +366,9 @@ module _ (l : Layout) (t : tiles l ≡ true) where
   unfolding lacked
   layout-none m = all-each (λ f. isZero (look es m f)) (lacked l) (none-read es m true allFields)
 
+  pub layout-sized : (m : List ℕ) → Sized (look es m)
+  layout-sized m f = look-sized es m 0 f (parts .0)
+
   pub layout-kinds : (m : List ℕ) (f : Field) → isText (look es m f) ≡ isText (zeroOf f)
   layout-kinds m f = read-kind es m 0 f (parts .0)
 
@@ -364,12 +390,12 @@ module _ (l : Layout) (t : tiles l ≡ true) where
   unfolding fitsBy lawfulBy lacked
   layout-back v y o f =
       let e = all-first (λ g. isZero (v g)) (keptBy l v) (lacked l) o .1 in
-      back v (written es v) f es 0 (parts .0) (lawful-fits v y o) refl (λ h. zero-of (roomOf f) (v f) (empty-of es v f allFields e (about f .1) h) (y f))
+      back v (written es v) f es 0 (parts .0) (lawful-fits v y o) refl
+      (λ h. zero-of (roomOf f) (v f) (empty-of es v f allFields e (about f .1) h) (y f))
 
   -- what is written has the length, and is spelt
-  pub layout-long : (v : Values) → fitsBy l v ≡ true → length (written es v) ≡ l .size
-  unfolding fitsBy
-  layout-long v g = written-length v es 0 (parts .0) g ∙ parts .1
+  pub layout-long : (v : Values) → Sized v → length (written es v) ≡ l .size
+  layout-long v y = written-length v es 0 (parts .0) y ∙ parts .1
 
   pub layout-spelt : (v : Values) → fitsBy l v ≡ true → speltBy l (written es v) ≡ true
   unfolding fitsBy speltBy

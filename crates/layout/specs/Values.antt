@@ -3,7 +3,7 @@
 use Prim.Native.Nat.{ℕ, _^_}
 use mathlib.Core.Path.{_≡_}
 use mathlib.Core.List.{List, [], _∷_}
-use mathlib.Core.Bool.{Bool, true, false}
+use mathlib.Core.Bool.{Bool, true, false, not}
 use lib.Dec.{eqb, ltb}
 use lib.ListN.{length, replicate}
 use Rattle.octets.specs.Run.{all}
@@ -70,6 +70,16 @@ typed (txt c) (text xs) = eqb (length xs) c
 -- each value is
 abbrev pub Typed : Values → Type 0
 Typed v = (f : Field) → typed (roomOf f) (v f) ≡ true
+
+-- a value is of the room's kind, and a text has its length: enough to know how long what is written is
+abbrev pub sized : Room → Value → Bool
+sized octet v = not (isText v)
+sized (num b) v = not (isText v)
+sized (txt c) (number x) = false
+sized (txt c) (text xs) = eqb (length xs) c
+
+abbrev pub Sized : Values → Type 0
+Sized v = (f : Field) → sized (roomOf f) (v f) ≡ true
 
 abbrev pub zeroIn : Room → Value
 zeroIn octet = number 0

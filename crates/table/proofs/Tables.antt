@@ -12,7 +12,7 @@ use lib.Dec.{eqb, ltb, leb, lit<}
 use lib.ListN.{length, getD, length-map}
 use Rattle.octets.specs.Run.{same}
 use Rattle.answers.specs.Answers.{numberOf, answerOf}
-use Rattle.message.specs.Reading.{readOf}
+use Rattle.message.specs.Reader.{readOf}
 use Rattle.records.specs.declared.Record.{Record}
 use Rattle.message.specs.declared.Reading.{Reading}
 use Rattle.message.proofs.Said.{Said, unshaped, unkept, obeyed, said}

@@ -1,11 +1,12 @@
 -- The kinds are six; each fixes the length of its entries and nothing else.
 -- Assumes nothing.
-use mathlib.Core.Path.{_≡_, refl}
+use mathlib.Core.Path.{_≡_, refl, sym}
 use mathlib.Core.Bool.{Bool, true, false, cond, not, _||_}
 use mathlib.Core.List.{List, [], _∷_, map}
 use Prim.Native.Nat.{ℕ, suc, _+_}
 use lib.Dec.{eqb}
-use Rattle.message.specs.Reading.{lengthBy}
+use Rattle.message.specs.Judged.{lengthBy}
+use Rattle.message.proofs.Lengths.{length-by}
 use Rattle.tape.specs.Entries.{messageLength, bodyLength, Kind, kinds, isKind, Message}
 use Rattle.tape.specs.Playing.{State, acted}
 
@@ -34,8 +35,7 @@ entry-lengths = record { printed = refl; each = refl; only = λ k. by-letter (eq
 
 -- a kind has the length of the messages whose letter it bears
 pub as-messages : (k : ℕ) → messageLength k ≡ lengthBy k
-unfolding lengthBy
-as-messages k = refl
+as-messages k = sym (length-by k)
 
 -- and of a message whose length is right the kind says nothing more
 pub length-alone : (s : State) (k k′ n : ℕ) (m : List ℕ) → acted s (Message k n m) ≡ acted s (Message k′ n m)

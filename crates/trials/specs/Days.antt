@@ -26,10 +26,12 @@ use Rattle.octets.specs.Run as Run
 use Rattle.numbers.specs.Number as Number
 use Rattle.texts.specs.Text as Text
 use Rattle.conditions.specs.Conditions as Conditions
-use Rattle.records.specs.Lawful as Lawful
-use Rattle.packed.specs.Packed.{saleAt}
-use Rattle.message.specs.Fields as Fields
-use Rattle.message.specs.Reading as Reading
+use Rattle.layout.specs.Values as Values
+use Rattle.layout.specs.Tables as Tables
+use Rattle.kinds.specs.Kinds as Kinds
+use Rattle.records.specs.Held as Held
+use Rattle.message.specs.Layouts as Layouts
+use Rattle.message.specs.Reader as Reader
 use Rattle.cells.specs.Search as Search
 use Rattle.lines.specs.Lines as Lines
 use Rattle.rows.specs.Rows as Rows
@@ -220,7 +222,8 @@ keptAfter day k (n ∷ ns) = keptAfter day (given k n (day n)) ns
 
 unfoldable pub saidBack : Case → List ℕ
 unfolding Run.tab Run.part Number.be Number.digits Text.text Conditions.levelAt Conditions.marksOf Conditions.conditionMarks
-    Reading.lengthBy saleAt Fields.fieldsS Fields.fieldsTrade Fields.fieldsJ Fields.fieldsOf Lawful.saleOk Lawful.saleNone Lawful.pricesNone Lawful.tradeOk Lawful.lawfulS Lawful.lawfulT Lawful.lawfulC Lawful.lawfulJ Lawful.lawfulOf Reading.judgedOf Reading.readOf
+    Kinds.kindOf Layouts.layoutS Layouts.layoutT Layouts.layoutC Layouts.layoutJ Values.roomOf Tables.speltBy Tables.obeysBy
+    Held.saleFrom Held.newFrom Held.recordFrom Held.readBy Reader.readIn Reader.readOf
     Search.first Lines.lineFrom Lines.lineBytes Lines.usedLines Lines.lineIn Lines.withLine Lines.withDead
     Rows.summaryAt Rows.reportedAt Rows.rowFrom Rows.newRow Rows.reportBytes Rows.summaryBytes Rows.usedRows Rows.rowIn Rows.inRow
     Figures.counts Figures.sold Figures.tally Figures.fold Figures.figuresOf Showing.shownOf
