@@ -14,7 +14,7 @@ use Rattle.answers.specs.Answers.{numberOf, answerOf}
 use Rattle.answers.specs.Cases.{Case, given, inBook}
 use Rattle.answers.proofs.Cases.{numbersOf, given-among, given-uses}
 use Rattle.records.specs.declared.Record.{Record}
-use Rattle.message.specs.Reading.{readOf}
+use Rattle.message.specs.Reader.{readOf}
 use Rattle.rows.specs.declared.Listing.{Listing}
 use Rattle.rows.specs.Rows.{rowLimit}
 use Rattle.counters.specs.Counting.{lastNumber}

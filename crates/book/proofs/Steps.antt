@@ -14,7 +14,7 @@ use Rattle.answers.specs.Cases.{Case, given}
 use Rattle.answers.proofs.Cases.{picked, picked-is}
 use Rattle.answers.specs.declared.Answer.{Answer}
 use Rattle.message.specs.declared.Reading.{Reading}
-use Rattle.message.specs.Reading.{readOf}
+use Rattle.message.specs.Reader.{readOf}
 use Rattle.records.specs.declared.Record.{Record}
 use Rattle.cells.specs.declared.Found.the-variants.{Nothing, At}
 use Rattle.kinds.specs.declared.Kind.{Kind}

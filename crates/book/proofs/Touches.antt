@@ -15,7 +15,7 @@ use Rattle.numbers.proofs.Laws.{be-below}
 use Rattle.answers.specs.Cases.{says, given, inBook}
 use Rattle.records.specs.Fits.{RecordFits}
 use Rattle.records.specs.declared.Record.{Record}
-use Rattle.message.specs.Reading.{readOf}
+use Rattle.message.specs.Reader.{readOf}
 use Rattle.message.proofs.Fitting.{read-fits}
 use Rattle.cells.specs.declared.Found.{Found}
 use Rattle.cells.specs.declared.Found.the-variants.{Nothing, At}

@@ -9,7 +9,7 @@ use Rattle.texts.specs.Text.{text}
 use Rattle.answers.specs.Answers.{answerOf}
 use Rattle.answers.specs.Cases.{Case, says, given, inBook}
 use Rattle.records.specs.declared.Record.{Record}
-use Rattle.message.specs.Reading.{readOf}
+use Rattle.message.specs.Reader.{readOf}
 use Rattle.lines.specs.Lines.{lineWith}
 use Rattle.rows.specs.declared.Listing.{Listing}
 use Rattle.rows.specs.Rows.{rowLimit, listingOf, rowIn, withRow}

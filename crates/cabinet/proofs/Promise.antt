@@ -14,12 +14,12 @@ use denote.Ref.{now}
 use Rattle.octets.specs.Run.{Bytes}
 use Rattle.records.specs.declared.Record.{Record}
 use Rattle.answers.specs.Answers.{numberOf}
-use Rattle.message.specs.Reading.{readOf}
-use Rattle.message.specs.Writing.{writeAnswer, writeOut}
+use Rattle.message.specs.Reader.{readOf}
+use Rattle.message.specs.Writer.{writeAnswer, writeOut}
 use Rattle.message.proofs.Fitting.{read-fits}
 use Rattle.layouts.proofs.Demand2.{read-again}
-use Rattle.packed.specs.Packed.{recordOf}
-use Rattle.packed.proofs.Again.{record-again}
+use Rattle.records.specs.Packed.{recordOf}
+use Rattle.records.proofs.Again.{record-again}
 use Rattle.cabinet.specs.Crossing.{Crossed}
 use Rattle.cabinet.proofs.sorundappa_start as start
 use Rattle.cabinet.proofs.sorundappa_start.Reads as start-reads

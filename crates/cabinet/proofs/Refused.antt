@@ -7,10 +7,10 @@ use mathlib.Core.List.{List}
 use lib.ListN.{length, replicate}
 use Rattle.numbers.specs.Number.{be}
 use Rattle.answers.specs.Answers.{numberOf}
-use Rattle.message.specs.Reading.{readOf}
+use Rattle.message.specs.Reader.{readOf}
 use Rattle.layouts.proofs.Demand2.{read-refused}
-use Rattle.packed.specs.Packed.{recordBytes}
-use Rattle.packed.proofs.Stores.{no-bytes}
+use Rattle.records.specs.Packed.{recordBytes}
+use Rattle.records.proofs.Stores.{no-bytes}
 use Rattle.show.specs.Showing.{nothingShown}
 use Rattle.counters.specs.Counting.{lastNumber}
 use Rattle.rows.specs.declared.Listing.{Listing}

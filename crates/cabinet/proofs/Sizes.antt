@@ -7,14 +7,15 @@ use lib.Dec.{eqb, lit≤}
 use lib.ListN.{length, List·getD-eq-default}
 use Rattle.records.specs.declared.Record.{Record}
 use Rattle.records.specs.Fits.{RecordFits}
-use Rattle.message.specs.Reading.{lengthBy}
+use Rattle.message.specs.Judged.{lengthBy}
+use Rattle.message.proofs.Lengths.{length-by}
 use Rattle.counters.specs.declared.Counters.{Counters}
 use Rattle.show.specs.declared.RowShown.{RowShown}
 use Rattle.words.specs.Words.{counterWords, rowWords}
 use Rattle.rows.specs.Rows.{rowLimit}
 use Rattle.lines.specs.Lines.{lineLimit}
-use Rattle.packed.specs.Packed.{recordBytes}
-use Rattle.packed.proofs.Stores.{fits-long, record-length}
+use Rattle.records.specs.Packed.{recordBytes}
+use Rattle.records.proofs.Stores.{fits-long, record-length}
 use Rattle.cabinet.specs.Sizes.{sizes, sizeOf}
 
 -- past the end of the list
@@ -43,23 +44,24 @@ either true a b n h k = h
 either false a b n h k = k
 
 pub sizes-are : SizesAre
-unfolding sizeOf lengthBy counterWords rowWords
+unfolding sizeOf counterWords rowWords
 sizes-are =
     record {
       rows = λ room. refl;
       lines = λ room. refl;
       longest =
           λ k.
-          either (eqb k 83) 6 _ 67 (lit≤ tt)
+          rw (length-by k)
+          (either (eqb k 83) 6 _ 67 (lit≤ tt)
           (either (eqb k 84) 45 _ 67 (lit≤ tt)
-          (either (eqb k 88) 45 _ 67 (lit≤ tt) (either (eqb k 67) 67 _ 67 (lit≤ tt) (either (eqb k 74) 34 0 67 (lit≤ tt) (lit≤ tt)))));
-      attained = refl;
+          (either (eqb k 88) 45 _ 67 (lit≤ tt) (either (eqb k 67) 67 _ 67 (lit≤ tt) (either (eqb k 74) 34 0 67 (lit≤ tt) (lit≤ tt))))));
+      attained = length-by 67;
       bytes = λ r g. record-length r (fits-long r g);
       counters = λ c. refl;
       figures = λ r. refl;
-      s = refl;
-      t = refl;
-      x = refl;
-      c = refl;
-      j = refl;
+      s = length-by 83;
+      t = length-by 84;
+      x = length-by 88;
+      c = length-by 67;
+      j = length-by 74;
     }

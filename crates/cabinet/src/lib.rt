@@ -6,18 +6,17 @@ use answers::Answer;
 use rows::Listing;
 ghost use mathlib.Core.Path.{_≡_};
 ghost use Rattle.answers.specs.Answers.{numberOf};
-ghost use Rattle.message.specs.Reading.{readOf};
-ghost use Rattle.message.specs.Writing.{writeAnswer, writeOut};
+ghost use Rattle.message.specs.Reader.{readOf};
+ghost use Rattle.message.specs.Writer.{writeAnswer, writeOut};
 ghost use Rattle.counters.specs.Counting.{freshCounters};
 ghost use Rattle.book.specs.State.{arrives};
 ghost use Rattle.book.specs.Calls.{listed, delivered, shown};
 ghost use Rattle.words.specs.Words.{counterWords, rowWords};
-ghost use Rattle.packed.specs.Packed.{recordOf, recordBytes};
+ghost use Rattle.records.specs.Packed.{recordOf, recordBytes};
 ghost use Rattle.cabinet.specs.Sizes.{sizeOf};
 ghost use Rattle.cabinet.specs.Crossing.{stateOf, listingWith, crossed, crossing};
 
-// The bytes of a record.
-const RECORD: usize = 80;
+
 
 // The bytes of a message of each type; an X is as long as a T, and no message is longer than a C.
 const EVENT: u64 = 6;
@@ -118,7 +117,7 @@ pub extern "C" fn sorundappa_row(
 
 // Reads a message alone. Answers 0, 4 or 5; where not 0, every byte of the record is 0.
 #[no_mangle]
-pub extern "C" fn sorundappa_read(message: &[u8], out: &mut [u8; RECORD]) -> u8
+pub extern "C" fn sorundappa_read(message: &[u8], out: &mut [u8; records::RECORD]) -> u8
     ensures answer { λ a. ⌜ a ≡ numberOf (readOf (now (message .entry)) .answer) ⌝ }
     ensures bytes { λ a. ⌜ now (out .exit) ≡ recordBytes (readOf (now (message .entry)) .found) ⌝ }
 {
@@ -128,7 +127,7 @@ pub extern "C" fn sorundappa_read(message: &[u8], out: &mut [u8; RECORD]) -> u8
 
 // Writes a record's message. Answers 0, 5 or 18; where not 0, out stays as it was.
 #[no_mangle]
-pub extern "C" fn sorundappa_write(bytes: &[u8; RECORD], out: &mut [u8]) -> u8
+pub extern "C" fn sorundappa_write(bytes: &[u8; records::RECORD], out: &mut [u8]) -> u8
     ensures answer { λ a. ⌜ a ≡ numberOf (writeAnswer (recordOf (now (bytes .entry))) (now (out .entry))) ⌝ }
     ensures out { λ a. ⌜ now (out .exit) ≡ writeOut (recordOf (now (bytes .entry))) (now (out .entry)) ⌝ }
 {
@@ -147,7 +146,7 @@ pub extern "C" fn sorundappa_size(which: u64) -> u64
         2 => lines::CELL as u64,
         3 => lines::CAP as u64,
         4 => CORRECTION,
-        5 => RECORD as u64,
+        5 => records::RECORD as u64,
         6 => words::COUNTERS as u64,
         7 => words::ROW as u64,
         8 => EVENT,

@@ -16,7 +16,7 @@ use Rattle.counters.specs.Counting.{lastNumber}
 use Rattle.book.specs.State.{Arrival, arrives}
 use Rattle.table.proofs.Tables.{number-wanted}
 use Rattle.clerk.specs.Steps.{Book, next, after, taking, usingUp, content}
-use Rattle.message.specs.Reading.{readOf}
+use Rattle.message.specs.Reader.{readOf}
 use Rattle.clerk.specs.Arrivals.{run, Largest, numbers, Copies, upto, play, deliverEach}
 
 -- ---- how many come in order

@@ -1,20 +1,24 @@
 -- Lent bytes are bytes after a call too.
 -- Assumes nothing.
-use Prim.Native.Nat.{ℕ, _+_, _<_}
+use Prim.Native.Nat.{ℕ, _<_}
+use mathlib.Core.Path.{_≡_, ap, sym, subst}
 use mathlib.Core.List.{List}
 use mathlib.Core.Bool.{cond}
 use lib.Dec.{eqb, lit<}
 use lib.ListN.{getD}
-use Rattle.octets.specs.Run.{Bytes}
+use Rattle.octets.specs.Run.{part, Bytes}
 use Rattle.octets.proofs.Bytes.{either-way, cons-bytes, part-bytes, zeros-bytes}
 use Rattle.records.specs.declared.Sale.{Sale}
 use Rattle.records.specs.declared.Record.{Record}
 use Rattle.message.specs.declared.Reading.{Reading}
 use Rattle.records.specs.Zeros.{noSale, noRecord}
-use Rattle.records.specs.Lawful.{lawfulOf}
-use Rattle.packed.specs.Packed.{saleAt}
-use Rattle.message.specs.Fields.{fieldsS, fieldsTrade, fieldsT, fieldsC, fieldsJ, fieldsOf}
-use Rattle.message.specs.Reading.{refusedOf, acceptedOf, judgedOf, misshapen, readOf}
+use Rattle.kinds.specs.Kinds.{kindOf}
+use Rattle.layout.specs.Values.{roomOf}
+use Rattle.records.specs.Held.{saleFrom, newFrom, recordFrom, readBy}
+use Rattle.message.specs.Layouts.{letterPlace, layoutS, layoutT, layoutC, layoutJ, layoutOf}
+use Rattle.message.specs.Judged.{filledIn, fieldsOf}
+use Rattle.message.specs.Reader.{readOf}
+use Rattle.message.proofs.Said.{Said, unshaped, unkept, obeyed, said}
 use Rattle.kinds.specs.declared.Kind.{Kind}
 use Rattle.kinds.specs.declared.Kind.the-variants.{Event, Trade, Cancel, Correction, Summary, Other}
 use Rattle.lines.specs.declared.Line.{Line}
@@ -27,6 +31,9 @@ use Rattle.book.specs.Calls.{messageGiven, lineNamed, taking, spent, delivered}
 
 -- ---- what is read from bytes
 
+byte-bytes : (m : List ℕ) (at : ℕ) → Bytes m → getD (part m at 1) 0 0 < 256
+byte-bytes m at b = part-bytes m at 1 b 0
+
 record SaleBytes (s : Sale) : Type 0 where
   pub control : Bytes (s .control)
   pub condition : Bytes (s .condition)
@@ -37,36 +44,43 @@ record RecordBytes (r : Record) : Type 0 where
   pub sale : SaleBytes (r .sale)
   pub new : SaleBytes (r .new)
 
-sale-bytes : (m : List ℕ) (at : ℕ) → Bytes m → SaleBytes (saleAt m at)
-unfolding saleAt
-sale-bytes m at b = record { control = part-bytes m at 10 b; condition = part-bytes m (at + 18) 4 b }
-
 no-sale-bytes : SaleBytes noSale
 no-sale-bytes = record { control = zeros-bytes 10; condition = zeros-bytes 4 }
 
 no-record-bytes : RecordBytes noRecord
 no-record-bytes = record { centre = lit< tt; symbol = zeros-bytes 8; sale = no-sale-bytes; new = no-sale-bytes }
 
-trade-bytes : (m : List ℕ) (s : Sale) (v : ℕ) → Bytes m → SaleBytes s → RecordBytes (fieldsTrade m s v)
-unfolding fieldsTrade
-trade-bytes m s v b h = record { centre = b 5; symbol = part-bytes m 6 8 b; sale = sale-bytes m 15 b; new = h }
-
-fields-bytes : (m : List ℕ) → Bytes m → RecordBytes (fieldsOf m)
-unfolding fieldsOf fieldsS fieldsJ
-fields-bytes m b =
-    either-way RecordBytes (eqb (getD m 4 0) 83) (fieldsS m) _
-    (record { centre = lit< tt; symbol = zeros-bytes 8; sale = no-sale-bytes; new = no-sale-bytes })
-    (either-way RecordBytes (eqb (getD m 4 0) 67) (fieldsC m) _ (trade-bytes m (saleAt m 37) _ b (sale-bytes m 37 b))
-    (either-way RecordBytes (eqb (getD m 4 0) 74) (fieldsJ m) (fieldsT m)
-    (record { centre = lit< tt; symbol = part-bytes m 5 8 b; sale = no-sale-bytes; new = no-sale-bytes })
-    (trade-bytes m noSale _ b no-sale-bytes)))
+-- by the layout of a type
+filled-bytes : (k : Kind) (m : List ℕ) → Bytes m → RecordBytes (filledIn (layoutOf k) m)
+unfolding readBy recordFrom saleFrom newFrom roomOf layoutS layoutT layoutC layoutJ
+filled-bytes Event m b = record { centre = lit< tt; symbol = zeros-bytes 8; sale = no-sale-bytes; new = no-sale-bytes }
+filled-bytes Trade m b =
+    record { centre = byte-bytes m 5 b; symbol = part-bytes m 6 8 b; sale = record
+    { control = part-bytes m 15 10 b; condition = part-bytes m 33 4 b }; new = no-sale-bytes }
+filled-bytes Cancel m b =
+    record { centre = byte-bytes m 5 b; symbol = part-bytes m 6 8 b; sale = record
+    { control = part-bytes m 15 10 b; condition = part-bytes m 33 4 b }; new = no-sale-bytes }
+filled-bytes Correction m b =
+    record {
+      centre = byte-bytes m 5 b;
+      symbol = part-bytes m 6 8 b;
+      sale = record { control = part-bytes m 15 10 b; condition = part-bytes m 33 4 b };
+      new = record { control = part-bytes m 37 10 b; condition = part-bytes m 55 4 b };
+    }
+filled-bytes Summary m b = record { centre = lit< tt; symbol = part-bytes m 5 8 b; sale = no-sale-bytes; new = no-sale-bytes }
+filled-bytes Other m b = no-record-bytes
 
 read-bytes : (m : List ℕ) → Bytes m → RecordBytes (readOf m .found)
-unfolding readOf judgedOf
-read-bytes m b =
-    let P : Reading → Type 0 = λ q. RecordBytes (q .found) in
-    either-way P (misshapen m) (refusedOf 4) (judgedOf (fieldsOf m)) no-record-bytes
-    (either-way P (lawfulOf (fieldsOf m)) (acceptedOf (fieldsOf m)) (refusedOf 5) (fields-bytes m b) no-record-bytes)
+unfolding fieldsOf
+read-bytes m b = go (said m)
+  where
+    as-found : (r : Record) → readOf m .found ≡ r → RecordBytes r → RecordBytes (readOf m .found)
+    as-found r e f = subst RecordBytes (sym e) f
+
+    go : Said m → RecordBytes (readOf m .found)
+    go (unshaped e q) = as-found noRecord (ap (λ (a : Reading). a .found) q) no-record-bytes
+    go (unkept e f q) = as-found noRecord (ap (λ (a : Reading). a .found) q) no-record-bytes
+    go (obeyed e l q) = as-found (fieldsOf m) (ap (λ (a : Reading). a .found) q) (filled-bytes (kindOf (getD m letterPlace 0)) m b)
 
 -- ---- what is stored
 

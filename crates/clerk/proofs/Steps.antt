@@ -15,7 +15,7 @@ use Rattle.octets.specs.Run.{Bytes}
 use Rattle.numbers.proofs.Laws.{up-is}
 use Rattle.answers.specs.Cases.{Case, given, inBook}
 use Rattle.records.specs.Fits.{RecordFits}
-use Rattle.message.specs.Reading.{readOf}
+use Rattle.message.specs.Reader.{readOf}
 use Rattle.records.specs.declared.Record.{Record}
 use Rattle.message.proofs.Fitting.{read-fits}
 use Rattle.cells.specs.declared.Found.{Found}

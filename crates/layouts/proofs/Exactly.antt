@@ -1,123 +1,128 @@
--- What the reader's working definitions amount to: the layouts.
+-- What the reader's and the writer's tests amount to: `Shaped`, `Obeys` and `Lawful`, by the layout that the letter names.
 -- Assumes nothing.
 use mathlib.Core.Path.{_≡_, refl, ap, sym, subst, _∙_}
-use mathlib.Core.Bool.{Bool, true, false, not, _||_}
-use mathlib.Core.List.{List, [], _∷_}
+use mathlib.Core.Bool.{true, _&&_}
+use mathlib.Core.List.{List}
+use mathlib.Core.Option.{Option, none, some}
 use Prim.Native.Nat.{ℕ}
-use native.Mathlib.Omega.{arith}
-use borrow.Author.Tests.{eqb-true, eqb-false, ne-eqb, eq-eqb}
+use borrow.Author.Tests.{eqb-true, eq-eqb}
 use lib.Dec.{eqb}
 use lib.ListN.{length, getD}
+use Rattle.octets.specs.Run.{Bytes}
+use Rattle.kinds.specs.Kinds.{kindOf}
+use Rattle.layout.specs.Values.{isZero}
+use Rattle.layout.specs.Tables as Tables
+use Rattle.layout.specs.Tables.{Layout, fieldOf, stands, Each, lacked, speltBy}
+use Rattle.layout.proofs.Forms.{both, clash}
+use Rattle.layout.proofs.Tables as Laws
 use Rattle.records.specs.declared.Record.{Record}
-use Rattle.records.specs.Lawful.{lawfulOf}
-use Rattle.packed.specs.Packed.{saleAt}
-use Rattle.message.specs.Fields.{fieldsS, fieldsTrade, fieldsT, fieldsC, fieldsJ, fieldsOf}
-use Rattle.message.specs.Reading.{lengthBy, misshapen}
-use Rattle.layouts.specs.Layouts.{Entry, MessageType, S, T, X, C, J, letterOf, lengthOf, layoutOf, stands, holds, fieldOf, keeps, isZero, Each, lacked, Shaped, Obeys}
-use Rattle.layouts.proofs.Letters.{Which, typed, none, which, byType, chosen-by, long-letter, long-some, typed-by}
-use Rattle.layouts.proofs.Lawful.{lawful-is, is-lawful}
+use Rattle.records.specs.Held.{holds, readBy, writeBy, lawful}
+use Rattle.records.proofs.Held.{read-letter, read-stands, read-lacks, read-written, obeys-lawful}
+use Rattle.message.specs.Layouts.{letterPlace, layoutBy}
+use Rattle.message.specs.Judged.{sizeIn, filledIn, bytesIn, lawfulIn, lengthBy, fieldsOf, bytesOf, lawfulOf}
+use Rattle.message.specs.Reader.{shapedIn, obeysIn}
+use Rattle.message.specs.Obeying.{Shaped, Obeys, Lawful}
+use Rattle.message.proofs.Good.{Good, All, good}
+
+-- ---- a layout that a letter names is one of the five
+
+pub named : (k : ℕ) (l : Layout) → layoutBy k ≡ some l → Good l
+named k l e = subst (All Good) e (good (kindOf k))
+
+-- ---- messages
 
 module _ (m : List ℕ) where
-  -- ---- the record of each type
+  abbrev by : Option Layout
+  by = layoutBy (getD m letterPlace 0)
 
-  abbrev pub fieldsAs : MessageType → Record
-  fieldsAs k = byType k (fieldsS m) (fieldsT m) (fieldsC m) (fieldsJ m)
-
-  pub fields-as : (k : MessageType) → getD m 4 0 ≡ letterOf k → fieldsOf m ≡ fieldsAs k
-  unfolding fieldsOf
-  fields-as k e = chosen-by (getD m 4 0) k e (fieldsS m) (fieldsT m) (fieldsC m) (fieldsJ m)
-
-  pub letter-of : fieldsOf m .letter ≡ getD m 4 0
-  unfolding fieldsOf fieldsS fieldsTrade fieldsJ
-  letter-of = go (which (getD m 4 0))
+  pub shaped-is : shapedIn by m ≡ true → Shaped m
+  shaped-is s = go by refl s
     where
-      at-type : (k : MessageType) → fieldsAs k .letter ≡ getD m 4 0
-      at-type S = refl
-      at-type T = refl
-      at-type X = refl
-      at-type C = refl
-      at-type J = refl
+      go : (o : Option Layout) → by ≡ o → shapedIn o m ≡ true → Shaped m
+      go none e s = clash s
+      go (some l) e s = record { type = l; typed = e; long = eqb-true (length m) (l .size) s }
 
-      go : Which (getD m 4 0) → fieldsOf m .letter ≡ getD m 4 0
-      go (typed k e) = ap (λ (r : Record). r .letter) (fields-as k e) ∙ at-type k
-      go (none s t x c j) = simp (s, c, j)
+  pub is-shaped : Shaped m → shapedIn by m ≡ true
+  is-shaped s = ap (λ (o : Option Layout). shapedIn o m) (s .typed) ∙ eq-eqb (length m) (s .type .size) (s .long)
 
-  -- every field of the layout stands at its place, every other is zero
-  stood-as : (k : MessageType) → Each (λ e. holds (fieldOf e) (fieldsAs k) ≡ stands e m) (layoutOf k)
-  unfolding layoutOf holds stands fieldsS fieldsTrade fieldsJ saleAt
-  stood-as S = (refl, (refl, (refl, tt)))
-  stood-as T = (refl, (refl, (refl, (refl, (refl, (refl, (refl, (refl, (refl, (refl, tt))))))))))
-  stood-as X = (refl, (refl, (refl, (refl, (refl, (refl, (refl, (refl, (refl, (refl, tt))))))))))
-  stood-as C = (refl, (refl, (refl, (refl, (refl, (refl, (refl, (refl, (refl, (refl, (refl, (refl, (refl, (refl, tt))))))))))))))
-  stood-as J = (refl, (refl, (refl, (refl, (refl, (refl, (refl, (refl, tt))))))))
-
-  lacks-as : (k : MessageType) → Each (λ f. isZero (holds f (fieldsAs k)) ≡ true) (lacked k)
-  unfolding layoutOf lacked holds isZero fieldsS fieldsTrade fieldsJ
-  lacks-as S = (refl, (refl, (refl, (refl, (refl, (refl, (refl, (refl, (refl, (refl, (refl, (refl, (refl, (refl, (refl, tt)))))))))))))))
-  lacks-as T = (refl, (refl, (refl, (refl, (refl, (refl, (refl, (refl, tt))))))))
-  lacks-as X = (refl, (refl, (refl, (refl, (refl, (refl, (refl, (refl, tt))))))))
-  lacks-as C = (refl, (refl, (refl, (refl, tt))))
-  lacks-as J = (refl, (refl, (refl, (refl, (refl, (refl, (refl, (refl, (refl, (refl, tt))))))))))
-
-  module _ (k : MessageType) (e : getD m 4 0 ≡ letterOf k) where
-    pub stood : Each (λ e. holds (fieldOf e) (fieldsOf m) ≡ stands e m) (layoutOf k)
-    stood = subst (λ (r : Record). Each (λ e. holds (fieldOf e) r ≡ stands e m) (layoutOf k)) (sym (fields-as k e)) (stood-as k)
-
-    pub lacks : Each (λ f. isZero (holds f (fieldsOf m)) ≡ true) (lacked k)
-    lacks = subst (λ (r : Record). Each (λ f. isZero (holds f r) ≡ true) (lacked k)) (sym (fields-as k e)) (lacks-as k)
-
-  -- ---- shape
-
-  either-false : (a b : Bool) → (a || not b) ≡ false → (a ≡ false) × (b ≡ true)
-  either-false false true e = (refl, refl)
-  either-false false false e = let z : _≡_ {A = ℕ} 0 1 = cc in absurd (omega arith)
-  either-false true b e = let z : _≡_ {A = ℕ} 0 1 = cc in absurd (omega arith)
-
-  pub shape-parts : misshapen m ≡ false → (lengthBy (getD m 4 0) ≡ 0 → ⊥) × (length m ≡ lengthBy (getD m 4 0))
-  shape-parts e =
-      let p = either-false (eqb (lengthBy (getD m 4 0)) 0) (eqb (length m) (lengthBy (getD m 4 0))) e in
-      (eqb-false _ _ (p .0), eqb-true _ _ (p .1))
-
-  abbrev shaped-at : misshapen m ≡ false → (k : MessageType) → getD m 4 0 ≡ letterOf k → Shaped m
-  shaped-at e k t = record { type = k; typed = t; long = shape-parts e .1 ∙ ap lengthBy t ∙ long-letter k }
-
-  pub shaped-is : misshapen m ≡ false → Shaped m
-  shaped-is e =
-      let k = typed-by (getD m 4 0) (shape-parts e .0) in
-      shaped-at e (k .0) (k .1)
-
-  pub is-shaped : Shaped m → misshapen m ≡ false
-  is-shaped s = go (s .type) (s .typed) (s .long)
+  pub obeys-is : obeysIn by m ≡ true → Obeys m
+  obeys-is s = go by refl s
     where
-      flat : (n k : ℕ) → n ≡ k → (k ≡ 0 → ⊥) → (eqb k 0 || not (eqb n k)) ≡ false
-      flat n k e h = rw (ne-eqb k 0 h, eq-eqb n k e)
+      go : (o : Option Layout) → by ≡ o → obeysIn o m ≡ true → Obeys m
+      go none e s = clash s
+      go (some l) e s = record { type = l; typed = e; obeys = Laws.obeys-is l m s }
 
-      go : (k : MessageType) → getD m 4 0 ≡ letterOf k → length m ≡ lengthOf k → misshapen m ≡ false
-      go k t l =
-          let w : lengthBy (getD m 4 0) ≡ lengthOf k = ap lengthBy t ∙ long-letter k in
-          flat (length m) (lengthBy (getD m 4 0)) (l ∙ sym w) (λ z. long-some k (sym w ∙ z))
+  pub is-obeys : Obeys m → obeysIn by m ≡ true
+  is-obeys o = ap (λ (x : Option Layout). obeysIn x m) (o .typed) ∙ Laws.is-obeys (o .type) m (o .obeys)
 
-  -- ---- a message obeys its layout exactly if it is not misshapen and its record passes
+  -- by the layout that the letter names
+  module _ (l : Layout) (e : by ≡ some l) where
+    pub fields-as : fieldsOf m ≡ readBy l m
+    unfolding fieldsOf
+    fields-as = ap (λ (o : Option Layout). filledIn o m) e
 
-  each-stands : (r : Record) (es : List Entry) → Each (λ e. holds (fieldOf e) r ≡ stands e m) es → Each (λ e. keeps e (holds (fieldOf e) r) ≡ true) es
-      → Each (λ e. keeps e (stands e m) ≡ true) es
-  each-stands r [] p q = tt
-  each-stands r (e ∷ es) p q = (sym (ap (keeps e) (p .0)) ∙ q .0, each-stands r es (p .1) (q .1))
+    pub letter-of : fieldsOf m .letter ≡ getD m letterPlace 0
+    letter-of =
+        let h = named (getD m letterPlace 0) l e in
+        ap (λ (r : Record). r .letter) fields-as ∙ read-letter l (h .tiled) m ∙ ap (λ (p : ℕ). getD m p 0) (h .placed)
 
-  each-holds : (r : Record) (es : List Entry) → Each (λ e. holds (fieldOf e) r ≡ stands e m) es → Each (λ e. keeps e (stands e m) ≡ true) es
-      → Each (λ e. keeps e (holds (fieldOf e) r) ≡ true) es
-  each-holds r [] p q = tt
-  each-holds r (e ∷ es) p q = (ap (keeps e) (p .0) ∙ q .0, each-holds r es (p .1) (q .1))
+    pub stood : Each (λ x. holds (fieldsOf m) (fieldOf x) ≡ stands x m) (l .entries)
+    stood = rw fields-as (read-stands l (named (getD m letterPlace 0) l e .tiled) m)
 
-  pub obeys-is : misshapen m ≡ false → lawfulOf (fieldsOf m) ≡ true → Obeys m
-  obeys-is e o =
-      let w = lawful-is (fieldsOf m) o in
-      let t : getD m 4 0 ≡ letterOf (w .type) = sym letter-of ∙ w .typed in
-      record { shape = shaped-at e (w .type) t; kept = each-stands (fieldsOf m) (layoutOf (w .type)) (stood (w .type) t) (w .kept) }
+    pub lacks : Each (λ f. isZero (holds (fieldsOf m) f) ≡ true) (lacked l)
+    lacks = rw fields-as (read-lacks l (named (getD m letterPlace 0) l e .tiled) m)
 
-  pub is-obeys : Obeys m → lawfulOf (fieldsOf m) ≡ true
-  is-obeys o =
-      let k = o .shape .type in
-      let t = o .shape .typed in
-      is-lawful (fieldsOf m)
-      (record { type = k; typed = letter-of ∙ t; kept = each-holds (fieldsOf m) (layoutOf k) (stood k t) (o .kept); empty = lacks k t })
+-- ---- records
+
+module _ (r : Record) where
+  pub lawful-is : lawfulOf r ≡ true → Lawful r
+  unfolding lawfulOf
+  lawful-is s = go (layoutBy (r .letter)) refl s
+    where
+      go : (o : Option Layout) → layoutBy (r .letter) ≡ o → lawfulIn o r ≡ true → Lawful r
+      go none e s = clash s
+      go (some l) e s = record { type = l; typed = e; lawful = Laws.lawful-is l (holds r) s }
+
+  pub is-lawful : Lawful r → lawfulOf r ≡ true
+  unfolding lawfulOf
+  is-lawful w = ap (λ (o : Option Layout). lawfulIn o r) (w .typed) ∙ Laws.is-lawful (w .type) (holds r) (w .lawful)
+
+  module _ (l : Layout) (e : layoutBy (r .letter) ≡ some l) where
+    pub bytes-as : bytesOf r ≡ writeBy l r
+    unfolding bytesOf
+    bytes-as = ap (λ (o : Option Layout). bytesIn o r) e
+
+    pub long-as : lengthBy (r .letter) ≡ l .size
+    unfolding lengthBy
+    long-as = ap sizeIn e
+
+    pub lawful-as : lawfulOf r ≡ lawful l r
+    unfolding lawfulOf
+    lawful-as = ap (λ (o : Option Layout). lawfulIn o r) e
+
+-- ---- a message that obeys fills a record that is lawful, and whose bytes are the message
+
+module _ (m : List ℕ) (o : Obeys m) where
+  again-named : layoutBy (fieldsOf m .letter) ≡ some (o .type)
+  again-named = ap layoutBy (letter-of m (o .type) (o .typed)) ∙ o .typed
+
+  pub filled-lawful : lawfulOf (fieldsOf m) ≡ true
+  filled-lawful =
+      let l = o .type in
+      let h = named (getD m letterPlace 0) l (o .typed) in
+      let q = obeys-lawful l (h .tiled) m in
+      let s = Laws.is-obeys l m (o .obeys) in
+      lawful-as (fieldsOf m) l again-named
+      ∙ ap (lawful l) (fields-as m l (o .typed))
+      ∙ both {a = eqb (length m) (l .size) && speltBy l m} (sym q ∙ s) .1
+
+  pub filled-long : lengthBy (fieldsOf m .letter) ≡ length m
+  filled-long = long-as (fieldsOf m) (o .type) again-named ∙ sym (o .obeys .long)
+
+  pub filled-again : Bytes m → bytesOf (fieldsOf m) ≡ m
+  filled-again b =
+      let l = o .type in
+      let h = named (getD m letterPlace 0) l (o .typed) in
+      bytes-as (fieldsOf m) l again-named
+      ∙ ap (writeBy l) (fields-as m l (o .typed))
+      ∙ read-written l (h .tiled) m b (o .obeys .long) (h .plain m)

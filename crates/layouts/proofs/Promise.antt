@@ -16,9 +16,9 @@ use Rattle.message.specs.declared.Reading.{Reading}
 use Rattle.answers.specs.declared.Answer.{Answer}
 use Rattle.answers.specs.Answers.{numberOf}
 use Rattle.records.specs.Fits.{RecordFits}
-use Rattle.layouts.specs.Layouts.{lengthOf, Lawful}
-use Rattle.message.specs.Reading.{acceptedOf, readOf}
-use Rattle.message.specs.Writing.{writeAnswer, writeOut}
+use Rattle.message.specs.Obeying.{Lawful}
+use Rattle.message.specs.Reader.{acceptedOf, readOf}
+use Rattle.message.specs.Writer.{writeAnswer, writeOut}
 use Rattle.message.proofs.read as read
 use Rattle.message.proofs.read.Reads as read-reads
 use Rattle.message.proofs.read.Kinds as read-kinds
@@ -29,7 +29,8 @@ use Rattle.layouts.proofs.Demand2.{ReadsExactly, read-exactly, read-aga
 
 module _ (κs : Lfts 1) (a : ArgsD read.signature κs) where
   -- `read-exactly` of a call
-  pub read-called : (r : Reading) (s : AtExit (endedOf 1 read-kinds.ps read-kinds.r) κs) → read-reads.Learnt κs a r s → ReadsExactly (now (a .0)) r
+  pub read-called : (r : Reading) (s : AtExit (endedOf 1 read-kinds.ps read-kinds.r) κs) → read-reads.Learnt κs a r s
+      → ReadsExactly (now (a .0)) r
   read-called r s h = subst (ReadsExactly (now (a .0))) (sym h) (read-exactly (now (a .0)))
 
 module _ (κs : Lfts 1) (a : ArgsD write.signature κs) where
@@ -58,7 +59,7 @@ module _ (κs κs′ : Lfts 1) (a : ArgsD read.signature κs) (b : ArgsD write.s
   pub back-called : (r : Reading) (s : AtExit (endedOf 1 read-kinds.ps read-kinds.r) κs)
       (w : Answer) (x : AtExit (endedOf 1 write-kinds.ps write-kinds.r) κs′)
       → read-reads.Learnt κs a r s → write-reads.Learnt κs′ b w x
-      → RecordFits (b .0) → (l : Lawful (b .0)) → lengthOf (l .type) ≤ length (now (b .1 .0))
-      → now (a .0) ≡ take (lengthOf (l .type)) (now (x .1 .0)) → r ≡ acceptedOf (b .0)
+      → RecordFits (b .0) → (l : Lawful (b .0)) → l .type .size ≤ length (now (b .1 .0))
+      → now (a .0) ≡ take (l .type .size) (now (x .1 .0)) → r ≡ acceptedOf (b .0)
   back-called r s w x h k f l n e =
-      h ∙ ap readOf (e ∙ ap (take (lengthOf (l .type))) (k .1)) ∙ write-again (b .0) (now (b .1 .0)) f l n
+      h ∙ ap readOf (e ∙ ap (take (l .type .size)) (k .1)) ∙ write-again (b .0) (now (b .1 .0)) f l n

@@ -11,12 +11,12 @@ use Rattle.octets.specs.Run.{tab, part}
 use Rattle.numbers.specs.Number.{be, digits}
 use Rattle.texts.specs.Text.{text}
 use Rattle.conditions.specs.Conditions.{levelAt, conditionMarks}
+use Rattle.kinds.specs.Kinds.{kindOf}
 use Rattle.answers.specs.Answers.{numberOf}
-use Rattle.layouts.specs.Layouts.{MessageType, S, T, X, C, J, letterOf, Obeys}
-use Rattle.records.specs.Lawful.{saleOk, saleNone, pricesNone, tradeOk, lawfulS, lawfulT, lawfulC, lawfulJ, lawfulOf}
-use Rattle.packed.specs.Packed.{saleAt}
-use Rattle.message.specs.Fields.{fieldsS, fieldsTrade, fieldsJ, fieldsOf}
-use Rattle.message.specs.Reading.{lengthBy, judgedOf, readOf}
+use Rattle.layout.specs.Tables.{speltBy, obeysBy, Each}
+use Rattle.message.specs.Layouts.{layoutS, layoutT, layoutC, layoutJ}
+use Rattle.message.specs.Reader.{readIn, readOf}
+use Rattle.message.specs.Obeying.{Obeys}
 use Rattle.layouts.proofs.Demand2.{read-exactly}
 
 -- ABCD and four spaces
@@ -27,17 +27,23 @@ symbol = 65 ∷ 66 ∷ 67 ∷ 68 ∷ 32 ∷ 32 ∷ 32 ∷ 32 ∷ []
 abbrev sale : ℕ → ℕ → ℕ → List ℕ
 sale control price size = (control ∷ replicate 9 32) ++ (digits 4 price ++ (digits 4 size ++ (64 ∷ 32 ∷ 32 ∷ 32 ∷ [])))
 
--- T, X and C to offset 36: time, letter, centre Q, symbol, class Q, and a sale
-abbrev head : MessageType → ℕ → ℕ → List ℕ
-head t time price = digits 4 time ++ (letterOf t ∷ 81 ∷ (symbol ++ (81 ∷ sale 49 price 100)))
+-- T (84), X (88) and C (67) to offset 36: time, letter, centre Q, symbol, class Q, and a sale
+abbrev head : ℕ → ℕ → ℕ → List ℕ
+head letter time price = digits 4 time ++ (letter ∷ 81 ∷ (symbol ++ (81 ∷ sale 49 price 100)))
 
--- a message of each type, at a time and a price
-abbrev sample : MessageType → ℕ → ℕ → List ℕ
-sample S time price = digits 4 time ++ (83 ∷ 79 ∷ [])
-sample T time price = head T time price ++ digits 8 600
-sample X time price = head X time price ++ digits 8 600
-sample C time price = head C time price ++ (sale 57 price 120 ++ digits 8 600)
-sample J time price = digits 4 time ++ (74 ∷ (symbol ++ (81 ∷ (digits 4 price ++ (digits 4 price ++ (digits 4 price ++ digits 8 600))))))
+-- T and X
+abbrev trade : ℕ → ℕ → ℕ → List ℕ
+trade letter time price = head letter time price ++ digits 8 600
+
+-- a message of each type: S, T, X, C, J
+abbrev samples : List (List ℕ)
+samples =
+    (digits 4 1000 ++ (83 ∷ 79 ∷ []))
+    ∷ trade 84 1000 251000
+    ∷ trade 88 1000 251000
+    ∷ (head 67 1000 251000 ++ (sale 57 251000 120 ++ digits 8 600))
+    ∷ (digits 4 1000 ++ (74 ∷ (symbol ++ (81 ∷ (digits 4 251000 ++ (digits 4 251000 ++ (digits 4 251000 ++ digits 8 600)))))))
+    ∷ []
 
 record Case : Type 0 where
   message : List ℕ
@@ -51,28 +57,25 @@ right (c ∷ cs) = eqb (numberOf (readOf (c .message) .answer)) (c .answer) && r
 abbrev cases : List Case
 cases =
     record { message = []; answer = 4 }
-    ∷ record { message = sample T 1000 2000000000; answer = 0 }
-    ∷ record { message = sample T 1000 2000000001; answer = 5 }
-    ∷ record { message = sample T 1000 0; answer = 5 }
-    ∷ record { message = take 44 (sample T 1000 251000); answer = 4 }
-    ∷ record { message = sample T 1000 251000 ++ (0 ∷ []); answer = 4 }
-    ∷ record { message = sample T 86399999 251000; answer = 0 }
-    ∷ record { message = sample T 86400000 251000; answer = 5 }
+    ∷ record { message = trade 84 1000 2000000000; answer = 0 }
+    ∷ record { message = trade 84 1000 2000000001; answer = 5 }
+    ∷ record { message = trade 84 1000 0; answer = 5 }
+    ∷ record { message = take 44 (trade 84 1000 251000); answer = 4 }
+    ∷ record { message = trade 84 1000 251000 ++ (0 ∷ []); answer = 4 }
+    ∷ record { message = trade 84 86399999 251000; answer = 0 }
+    ∷ record { message = trade 84 86400000 251000; answer = 5 }
     ∷ []
 
-computed : (right cases ≡ true) × ((t : MessageType) → numberOf (readOf (sample t 1000 251000) .answer) ≡ 0)
-unfolding tab part be digits text levelAt conditionMarks lengthBy saleAt fieldsS fieldsTrade fieldsJ fieldsOf saleOk saleNone pricesNone tradeOk lawfulS lawfulT lawfulC lawfulJ lawfulOf judgedOf readOf
-computed = (refl, each)
-  where
-    each : (t : MessageType) → numberOf (readOf (sample t 1000 251000) .answer) ≡ 0
-    each S = refl
-    each T = refl
-    each X = refl
-    each C = refl
-    each J = refl
+computed : (right cases ≡ true) × Each (λ m. numberOf (readOf m .answer) ≡ 0) samples
+unfolding tab part be digits text levelAt conditionMarks kindOf speltBy obeysBy layoutS layoutT layoutC layoutJ readIn readOf
+computed = (refl, (refl, (refl, (refl, (refl, (refl, tt))))))
 
 pub read-cases : right cases ≡ true
 read-cases = computed .0
 
-pub some-obey : (t : MessageType) → Obeys (sample t 1000 251000)
-some-obey t = read-exactly (sample t 1000 251000) .zero .0 (computed .1 t)
+obeys-each : (ms : List (List ℕ)) → Each (λ m. numberOf (readOf m .answer) ≡ 0) ms → Each Obeys ms
+obeys-each [] h = tt
+obeys-each (m ∷ ms) h = (read-exactly m .zero .0 (h .0), obeys-each ms (h .1))
+
+pub some-obey : Each Obeys samples
+some-obey = obeys-each samples (computed .1)

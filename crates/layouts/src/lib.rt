@@ -1,2 +1,2 @@
-// The five layouts as document 01 states them: definitions and theorems only. `specs/` has the layouts, `proofs/` that
-// `message` reads and writes exactly these.
+// Demand 2 as theorems: `message` reads exactly what obeys the five layouts (`message/specs/Layouts.antt`), and writes
+// back what it read. There is no code here.

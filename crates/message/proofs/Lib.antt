@@ -1,9 +1,8 @@
-pub mod Lengths
-pub mod Written
+pub mod Good
+pub mod Runs
+pub mod Moves
 pub mod Said
-pub mod Filled
-pub mod Kept
 pub mod Fitting
-pub mod Packing
-pub mod Shapes
+pub mod Written
+pub mod Lengths
 pub mod Promise

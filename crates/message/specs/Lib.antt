@@ -1,4 +1,5 @@
-pub mod Fields
-pub mod Bytes
-pub mod Reading
-pub mod Writing
+pub mod Layouts
+pub mod Judged
+pub mod Reader
+pub mod Writer
+pub mod Obeying

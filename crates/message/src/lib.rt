@@ -1,19 +1,58 @@
-// One message of the feed, read from bytes and written to bytes. A record is filled, judged and stored as its eighty bytes (`packed`);
-// as a struct it is made once, at the end of `read`, and taken apart once, at the start of `write`.
+// One message of the feed, read from bytes and written to bytes. A record is filled, judged and stored as its eighty
+// bytes (`records::packed`); as a struct it is made once, at the end of `read`, and taken apart once, at the start of
+// `write`. What each contract says is computed from the layout that the letter names (`specs/Layouts.antt`).
 use answers::Answer;
+use judge::kept;
+use judge::lawful;
+use kinds::Kind;
+use kinds::kind_of;
+use octets::copy::copy_byte;
+use octets::copy::copy_four;
+use octets::copy::copy_run;
+use octets::run::byte;
+use records::CENTRE;
+use records::CONSOLIDATED;
+use records::EVENT;
+use records::HIGH;
+use records::LETTER;
+use records::RECORD;
 use records::Record;
+use records::SYMBOL;
+use records::TIME;
 ghost use mathlib.Core.Path.{_≡_};
-ghost use mathlib.Core.Bool.{true, false};
-ghost use Prim.Native.Nat.{_+_, _*_, _≤_};
-ghost use lib.ListN.{length, getD, set, replicate};
+ghost use lib.ListN.{replicate};
 ghost use lib.Seq.{sets};
-ghost use Rattle.octets.specs.Run.{part};
-ghost use Rattle.records.specs.Lawful.{lawfulOf};
-ghost use Rattle.packed.specs.Packed.{recordOf, recordBytes};
-ghost use Rattle.message.specs.Fields.{fieldsS, fieldsT, fieldsC, fieldsJ, fieldsOf};
-ghost use Rattle.message.specs.Bytes.{bytesS, bytesT, bytesC, bytesJ, bytesOf};
-ghost use Rattle.message.specs.Reading.{lengthBy, misshapen, readOf};
-ghost use Rattle.message.specs.Writing.{writeAnswer, writeOut};
+ghost use Rattle.records.specs.Held.{readBy, writeBy};
+ghost use Rattle.records.specs.Packed.{recordOf, recordBytes};
+ghost use Rattle.message.specs.Layouts.{layoutS, layoutT, layoutC, layoutJ, layoutOf};
+ghost use Rattle.message.specs.Judged.{sizeIn, filledIn, bytesIn};
+ghost use Rattle.message.specs.Reader.{readOf};
+ghost use Rattle.message.specs.Writer.{writeAnswer, writeOut};
+
+pub mod judge;
+
+// Where a message has its time, its letter, and what stands behind the letter.
+const M_TIME: usize = 0;
+
+const M_LETTER: usize = 4;
+
+const M_BODY: usize = 5;
+// Centre to condition in T, X and C: 32 bytes; with the new trade of a C 54.
+const TRADE: usize = 32;
+
+const TRADES: usize = 54;
+// Symbol and class, and the three prices and the volume, of a J.
+const NAMED: usize = 9;
+
+const FIGURES: usize = 20;
+
+const J_HIGH: usize = 14;
+// The consolidated volume of T and X, and of C.
+const VOLUME: usize = 8;
+
+const T_VOLUME: usize = 37;
+
+const C_VOLUME: usize = 59;
 
 // What reading says back: a record of zeros where the answer is not `Done`.
 pub struct Reading {
@@ -21,226 +60,170 @@ pub struct Reading {
     pub found: Record,
 }
 
-// The length of a type's messages, by its letter; 0 for a letter of no type.
-fn length_of(letter: u8) -> usize
-    ensures { λ r. ⌜ r ≡ lengthBy letter ⌝ }
+// The length of a type's messages; 0 for what is no type.
+fn length_of(kind: Kind) -> usize
+    ensures { λ r. ⌜ r ≡ sizeIn (layoutOf kind) ⌝ }
 {
-    match letter {
-        b'S' => 6,
-        b'T' => 45,
-        b'X' => 45,
-        b'C' => 67,
-        b'J' => 34,
-        _ => 0,
+    match kind {
+        Kind::Event => 6,
+        Kind::Trade => 45,
+        Kind::Cancel => 45,
+        Kind::Correction => 67,
+        Kind::Summary => 34,
+        Kind::Other => 0,
     }
 }
 
-// Copies one byte.
-fn copy_byte(out: &mut [u8], to: usize, s: &[u8], from: usize)
-    requires { ⌜ (to + 1 ≤ length (now out)) × (from + 1 ≤ length (now s)) ⌝ }
-    ensures { λ _. ⌜ now (out .exit) ≡ set (now (out .entry)) to (getD (now (s .entry)) from 0) ⌝ }
+// Each type's fields, put over eighty zeros. Fields that stand side by side in a message and in the eighty bytes are
+// copied as one run.
+fn unpack_s(b: &mut [u8], m: &[u8])
+    requires { ⌜ now b ≡ replicate 80 0 ⌝ }
+    ensures { λ _. ⌜ now (b .exit) ≡ recordBytes (readBy layoutS (now (m .entry))) ⌝ }
 {
-    out[to] = s[from];
+    copy_byte(b, LETTER, m, M_LETTER);
+    copy_four(b, TIME, m, M_TIME);
+    copy_byte(b, EVENT, m, M_BODY);
 }
 
-// Copies four bytes, which are all read before the first is stored.
-fn copy_four(out: &mut [u8], to: usize, s: &[u8], from: usize)
-    requires { ⌜ (to + 4 ≤ length (now out)) × (from + 4 ≤ length (now s)) ⌝ }
-    ensures { λ _. ⌜ now (out .exit) ≡ sets (now (out .entry)) to (part (now (s .entry)) from 4) ⌝ }
+// T and X: whichever of the two letters it is, the fields stand where those of a T (84) do.
+fn unpack_t(b: &mut [u8], m: &[u8])
+    requires { ⌜ now b ≡ replicate 80 0 ⌝ }
+    ensures { λ _. ⌜ now (b .exit) ≡ recordBytes (readBy (layoutT 84) (now (m .entry))) ⌝ }
 {
-    let a = s[from];
-    let b = s[from + 1];
-    let c = s[from + 2];
-    let d = s[from + 3];
-    out[to] = a;
-    out[to + 1] = b;
-    out[to + 2] = c;
-    out[to + 3] = d;
+    copy_byte(b, LETTER, m, M_LETTER);
+    copy_four(b, TIME, m, M_TIME);
+    copy_run(b, CENTRE, m, M_BODY, TRADE);
+    copy_run(b, CONSOLIDATED, m, T_VOLUME, VOLUME);
 }
 
-// Copies n times four bytes.
-fn copy(out: &mut [u8], to: usize, s: &[u8], from: usize, n: usize)
-    requires { ⌜ (to + 4 * n ≤ length (now out)) × (from + 4 * n ≤ length (now s)) ⌝ }
-    ensures { λ _. ⌜ now (out .exit) ≡ sets (now (out .entry)) to (part (now (s .entry)) from (4 * n)) ⌝ }
+fn unpack_c(b: &mut [u8], m: &[u8])
+    requires { ⌜ now b ≡ replicate 80 0 ⌝ }
+    ensures { λ _. ⌜ now (b .exit) ≡ recordBytes (readBy layoutC (now (m .entry))) ⌝ }
 {
-    let mut i: usize = 0;
-    while i < n {
-        copy_four(out, to + 4 * i, s, from + 4 * i);
-        i += 1;
+    copy_byte(b, LETTER, m, M_LETTER);
+    copy_four(b, TIME, m, M_TIME);
+    copy_run(b, CENTRE, m, M_BODY, TRADES);
+    copy_run(b, CONSOLIDATED, m, C_VOLUME, VOLUME);
+}
+
+fn unpack_j(b: &mut [u8], m: &[u8])
+    requires { ⌜ now b ≡ replicate 80 0 ⌝ }
+    ensures { λ _. ⌜ now (b .exit) ≡ recordBytes (readBy layoutJ (now (m .entry))) ⌝ }
+{
+    copy_byte(b, LETTER, m, M_LETTER);
+    copy_four(b, TIME, m, M_TIME);
+    copy_run(b, SYMBOL, m, M_BODY, NAMED);
+    copy_run(b, HIGH, m, J_HIGH, FIGURES);
+}
+
+// The fields of a message of a type, put over eighty zeros; what is no type has none.
+fn unpack(b: &mut [u8], m: &[u8], kind: Kind)
+    requires { ⌜ now b ≡ replicate 80 0 ⌝ }
+    ensures { λ _. ⌜ now (b .exit) ≡ recordBytes (filledIn (layoutOf kind) (now (m .entry))) ⌝ }
+{
+    match kind {
+        Kind::Event => unpack_s(b, m),
+        Kind::Trade => unpack_t(b, m),
+        Kind::Cancel => unpack_t(b, m),
+        Kind::Correction => unpack_c(b, m),
+        Kind::Summary => unpack_j(b, m),
+        Kind::Other => {}
     }
 }
 
-// Each type's fields, put over eighty zeros.
-fn fields_s(b: &mut [u8], m: &[u8])
-    requires { ⌜ (length (now b) ≡ 80) × (now b ≡ replicate 80 0) × (length (now m) ≡ 6) ⌝ }
-    ensures { λ _. ⌜ now (b .exit) ≡ recordBytes (fieldsS (now (m .entry))) ⌝ }
-{
-    copy_byte(b, 0, m, 4);
-    copy_four(b, 1, m, 0);
-    copy_byte(b, 5, m, 5);
-}
-
-// T and X: centre, symbol, class and trade stand in one piece, here and there.
-fn fields_t(b: &mut [u8], m: &[u8])
-    requires { ⌜ (length (now b) ≡ 80) × (now b ≡ replicate 80 0) × (length (now m) ≡ 45) ⌝ }
-    ensures { λ _. ⌜ now (b .exit) ≡ recordBytes (fieldsT (now (m .entry))) ⌝ }
-{
-    copy_byte(b, 0, m, 4);
-    copy_four(b, 1, m, 0);
-    copy(b, 6, m, 5, 8);
-    copy(b, 72, m, 37, 2);
-}
-
-// As T, and the new trade in the same piece.
-fn fields_c(b: &mut [u8], m: &[u8])
-    requires { ⌜ (length (now b) ≡ 80) × (now b ≡ replicate 80 0) × (length (now m) ≡ 67) ⌝ }
-    ensures { λ _. ⌜ now (b .exit) ≡ recordBytes (fieldsC (now (m .entry))) ⌝ }
-{
-    copy_byte(b, 0, m, 4);
-    copy_four(b, 1, m, 0);
-    copy(b, 6, m, 5, 13);
-    copy_byte(b, 58, m, 57);
-    copy_byte(b, 59, m, 58);
-    copy(b, 72, m, 59, 2);
-}
-
-// The three prices and the volume are one piece.
-fn fields_j(b: &mut [u8], m: &[u8])
-    requires { ⌜ (length (now b) ≡ 80) × (now b ≡ replicate 80 0) × (length (now m) ≡ 34) ⌝ }
-    ensures { λ _. ⌜ now (b .exit) ≡ recordBytes (fieldsJ (now (m .entry))) ⌝ }
-{
-    copy_byte(b, 0, m, 4);
-    copy_four(b, 1, m, 0);
-    copy(b, 7, m, 5, 2);
-    copy_byte(b, 15, m, 13);
-    copy(b, 60, m, 14, 5);
-}
-
-// The fields of a message that has its type's length, by its letter.
-fn fields(b: &mut [u8], m: &[u8])
-    requires { ⌜ (length (now b) ≡ 80) × (now b ≡ replicate 80 0) × (misshapen (now m) ≡ false) ⌝ }
-    ensures { λ _. ⌜ now (b .exit) ≡ recordBytes (fieldsOf (now (m .entry))) ⌝ }
-{
-    let letter = octets::run::byte(m, 4);
-    if letter == b'S' {
-        fields_s(b, m);
-        return;
-    }
-    if letter == b'C' {
-        fields_c(b, m);
-        return;
-    }
-    if letter == b'J' {
-        fields_j(b, m);
-        return;
-    }
-    fields_t(b, m);
-}
-
-// The message that the bytes are, as the eighty bytes of its record. Answers 0, 4 or 5; where not 0, all eighty are 0.
-pub fn read_packed(message: &[u8], b: &mut [u8; 80]) -> Answer
+// Reads a message into the eighty bytes of its record, for a caller who keeps records as bytes. Answers 0, 4 or 5;
+// where not 0, all eighty are 0.
+pub fn read_packed(message: &[u8], b: &mut [u8; RECORD]) -> Answer
     ensures answer { λ a. ⌜ a ≡ readOf (now (message .entry)) .answer ⌝ }
     ensures bytes { λ a. ⌜ now (b .exit) ≡ recordBytes (readOf (now (message .entry)) .found) ⌝ }
 {
-    *b = [0u8; 80];
-    let letter = octets::run::byte(message, 4);
-    let need = length_of(letter);
+    *b = [0u8; RECORD];
+    let kind = kind_of(byte(message, M_LETTER));
+    let need = length_of(kind);
     if (need == 0) | (message.len() != need) {
         return Answer::NoType;
     }
-    fields(b, message);
-    if rules::kept(b) {
+    unpack(b, message, kind);
+    if kept(b, kind) {
         return Answer::Done;
     }
-    *b = [0u8; 80];
+    *b = [0u8; RECORD];
     Answer::FieldBroken
 }
 
-// The message that the bytes are. Answers 0, 4 or 5.
+// Reads a message as a record. Answers 0, 4 or 5.
 pub fn read(message: &[u8]) -> Reading
     ensures { λ r. ⌜ r ≡ readOf (now (message .entry)) ⌝ }
 {
-    let mut b = [0u8; 80];
+    let mut b = [0u8; RECORD];
     let a = read_packed(message, &mut b);
     Reading {
         answer: a,
-        found: packed::record(&b),
+        found: records::packed::record(&b),
     }
 }
 
+// The message of each type, stored from the eighty bytes of its record.
 fn put_s(out: &mut [u8], b: &[u8])
-    requires { ⌜ (6 ≤ length (now out)) × (length (now b) ≡ 80) ⌝ }
-    ensures { λ _. ⌜ now (out .exit) ≡ sets (now (out .entry)) 0 (bytesS (recordOf (now (b .entry)))) ⌝ }
+    ensures { λ _. ⌜ now (out .exit) ≡ sets (now (out .entry)) 0 (writeBy layoutS (recordOf (now (b .entry)))) ⌝ }
 {
-    copy_four(out, 0, b, 1);
-    copy_byte(out, 4, b, 0);
-    copy_byte(out, 5, b, 5);
+    copy_four(out, M_TIME, b, TIME);
+    copy_byte(out, M_LETTER, b, LETTER);
+    copy_byte(out, M_BODY, b, EVENT);
 }
 
 // T and X.
 fn put_t(out: &mut [u8], b: &[u8])
-    requires { ⌜ (45 ≤ length (now out)) × (length (now b) ≡ 80) ⌝ }
-    ensures { λ _. ⌜ now (out .exit) ≡ sets (now (out .entry)) 0 (bytesT (recordOf (now (b .entry)))) ⌝ }
+    ensures { λ _. ⌜ now (out .exit) ≡ sets (now (out .entry)) 0 (writeBy (layoutT 84) (recordOf (now (b .entry)))) ⌝ }
 {
-    copy_four(out, 0, b, 1);
-    copy_byte(out, 4, b, 0);
-    copy(out, 5, b, 6, 8);
-    copy(out, 37, b, 72, 2);
+    copy_four(out, M_TIME, b, TIME);
+    copy_byte(out, M_LETTER, b, LETTER);
+    copy_run(out, M_BODY, b, CENTRE, TRADE);
+    copy_run(out, T_VOLUME, b, CONSOLIDATED, VOLUME);
 }
 
 fn put_c(out: &mut [u8], b: &[u8])
-    requires { ⌜ (67 ≤ length (now out)) × (length (now b) ≡ 80) ⌝ }
-    ensures { λ _. ⌜ now (out .exit) ≡ sets (now (out .entry)) 0 (bytesC (recordOf (now (b .entry)))) ⌝ }
+    ensures { λ _. ⌜ now (out .exit) ≡ sets (now (out .entry)) 0 (writeBy layoutC (recordOf (now (b .entry)))) ⌝ }
 {
-    copy_four(out, 0, b, 1);
-    copy_byte(out, 4, b, 0);
-    copy(out, 5, b, 6, 13);
-    copy_byte(out, 57, b, 58);
-    copy_byte(out, 58, b, 59);
-    copy(out, 59, b, 72, 2);
+    copy_four(out, M_TIME, b, TIME);
+    copy_byte(out, M_LETTER, b, LETTER);
+    copy_run(out, M_BODY, b, CENTRE, TRADES);
+    copy_run(out, C_VOLUME, b, CONSOLIDATED, VOLUME);
 }
 
 fn put_j(out: &mut [u8], b: &[u8])
-    requires { ⌜ (34 ≤ length (now out)) × (length (now b) ≡ 80) ⌝ }
-    ensures { λ _. ⌜ now (out .exit) ≡ sets (now (out .entry)) 0 (bytesJ (recordOf (now (b .entry)))) ⌝ }
+    ensures { λ _. ⌜ now (out .exit) ≡ sets (now (out .entry)) 0 (writeBy layoutJ (recordOf (now (b .entry)))) ⌝ }
 {
-    copy_four(out, 0, b, 1);
-    copy_byte(out, 4, b, 0);
-    copy(out, 5, b, 7, 2);
-    copy_byte(out, 13, b, 15);
-    copy(out, 14, b, 60, 5);
+    copy_four(out, M_TIME, b, TIME);
+    copy_byte(out, M_LETTER, b, LETTER);
+    copy_run(out, M_BODY, b, SYMBOL, NAMED);
+    copy_run(out, J_HIGH, b, HIGH, FIGURES);
 }
 
-// The message of a record that is lawful, where there is room for it.
-fn store(out: &mut [u8], b: &[u8])
-    requires { ⌜ (lawfulOf (recordOf (now b)) ≡ true) × (length (now b) ≡ 80) × (lengthBy (getD (now b) 0 0) ≤ length (now out)) ⌝ }
-    ensures { λ _. ⌜ now (out .exit) ≡ sets (now (out .entry)) 0 (bytesOf (recordOf (now (b .entry)))) ⌝ }
+// The message of a type, stored from the eighty bytes of a record; what is no type has none.
+fn store(out: &mut [u8], b: &[u8], k: Kind)
+    ensures { λ _. ⌜ now (out .exit) ≡ sets (now (out .entry)) 0 (bytesIn (layoutOf k) (recordOf (now (b .entry)))) ⌝ }
 {
-    let letter = b[0];
-    if letter == b'S' {
-        put_s(out, b);
-        return;
+    match k {
+        Kind::Event => put_s(out, b),
+        Kind::Trade => put_t(out, b),
+        Kind::Cancel => put_t(out, b),
+        Kind::Correction => put_c(out, b),
+        Kind::Summary => put_j(out, b),
+        Kind::Other => {}
     }
-    if letter == b'C' {
-        put_c(out, b);
-        return;
-    }
-    if letter == b'J' {
-        put_j(out, b);
-        return;
-    }
-    put_t(out, b);
 }
 
-// Writes the message of the record that eighty bytes are at the front of out, the rest of out as it was. Answers 0, 5 or 18;
-// where not 0, out stays.
-pub fn write_packed(b: &[u8; 80], out: &mut [u8]) -> Answer
+// Writes the message of the record that eighty bytes are at the front of out, and leaves the rest of out as it was.
+// Answers 0, 5 or 18; where not 0, out stays.
+pub fn write_packed(b: &[u8; RECORD], out: &mut [u8]) -> Answer
     ensures answer { λ a. ⌜ a ≡ writeAnswer (recordOf (now (b .entry))) (now (out .entry)) ⌝ }
     ensures left { λ a. ⌜ now (out .exit) ≡ writeOut (recordOf (now (b .entry))) (now (out .entry)) ⌝ }
 {
-    if rules::lawful(b) {
-        if length_of(b[0]) <= out.len() {
-            store(out, b);
+    let kind = kind_of(b[LETTER]);
+    if lawful(b, kind) {
+        if length_of(kind) <= out.len() {
+            store(out, b, kind);
             return Answer::Done;
         }
         return Answer::NoSpace;
@@ -248,12 +231,13 @@ pub fn write_packed(b: &[u8; 80], out: &mut [u8]) -> Answer
     Answer::FieldBroken
 }
 
-// The record's bytes at the front of out, the rest of out as it was. Answers 0, 5 or 18; where not 0, out stays.
+// Writes the message of a record at the front of out, and leaves the rest of out as it was. Answers 0, 5 or 18; where
+// not 0, out stays.
 pub fn write(r: Record, out: &mut [u8]) -> Answer
     ensures answer { λ a. ⌜ a ≡ writeAnswer r (now (out .entry)) ⌝ }
     ensures left { λ a. ⌜ now (out .exit) ≡ writeOut r (now (out .entry)) ⌝ }
 {
-    let mut b = [0u8; 80];
-    packed::put_record(&mut b, r);
+    let mut b = [0u8; RECORD];
+    records::packed::put_record(&mut b, r);
     write_packed(&b, out)
 }

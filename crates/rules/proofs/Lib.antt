@@ -1,2 +1,2 @@
-pub mod Zeros
+pub mod Codes
 pub mod Promise

@@ -1,34 +1,41 @@
--- The contracts of `kept` and of `lawful` leave one answer each. `Learnt` is such a contract as the compiler hands it to a caller: of the
--- argument, of the result, and of the argument again as the call returns.
+-- Each rule's contract leaves one answer. `Learnt` is such a contract as the compiler hands it to a caller: of the arguments, of the
+-- result, and of the arguments again as the call returns.
 -- Assumes nothing.
-use mathlib.Core.Path.{_≡_, refl, sym, _∙_}
+use mathlib.Core.Path.{_≡_, sym, _∙_}
 use mathlib.Core.Bool.{Bool}
-use contract.Lifetimes.{Lfts}
-use borrow.Fn.World.{ArgsD}
-use borrow.Fn.Kinds.{endedOf}
-use denote.Triple.Clauses.{AtExit}
-use denote.Ref.{now}
-use Rattle.records.specs.Lawful.{keptOf, lawfulOf}
-use Rattle.packed.specs.Packed.{recordOf}
-use Rattle.rules.proofs.kept as kept
-use Rattle.rules.proofs.kept.Reads as kept-reads
-use Rattle.rules.proofs.kept.Kinds as kept-kinds
-use Rattle.rules.proofs.lawful as lawful
-use Rattle.rules.proofs.lawful.Reads as lawful-reads
-use Rattle.rules.proofs.lawful.Kinds as lawful-kinds
+use Prim.Native.Nat.{ℕ}
+use Rattle.rules.proofs.time_ok.Reads as time-ok
+use Rattle.rules.proofs.event_ok.Reads as event-ok
+use Rattle.rules.proofs.centre_ok.Reads as centre-ok
+use Rattle.rules.proofs.class_ok.Reads as class-ok
+use Rattle.rules.proofs.price_ok.Reads as price-ok
+use Rattle.rules.proofs.summary_price_ok.Reads as summary-price-ok
+use Rattle.rules.proofs.size_ok.Reads as size-ok
+use Rattle.rules.proofs.condition_ok.Reads as condition-ok
 
-module _ (κs : Lfts 1) (a : ArgsD kept.signature κs) where
-  pub kept-one : (r r′ : Bool) (s s′ : AtExit (endedOf 1 kept-kinds.ps kept-kinds.r) κs) → kept-reads.Learnt κs a r s → kept-reads.Learnt κs a r′ s′ → r ≡ r′
-  kept-one r r′ s s′ h h′ = h ∙ sym h′
+module _ (x x₁ x₂ : ℕ) (r r′ : Bool) where
+  pub time-ok-one : time-ok.Learnt tt (x, tt) r (x₁, tt) → time-ok.Learnt tt (x, tt) r′ (x₂, tt) → r ≡ r′
+  time-ok-one h h′ = h ∙ sym h′
 
-  -- what a caller is told, and nothing else
-  pub kept-says : (r : Bool) (s : AtExit (endedOf 1 kept-kinds.ps kept-kinds.r) κs) → kept-reads.Learnt κs a r s ≡ (r ≡ keptOf (recordOf (now (a .0))))
-  kept-says r s = refl
+  pub event-ok-one : event-ok.Learnt tt (x, tt) r (x₁, tt) → event-ok.Learnt tt (x, tt) r′ (x₂, tt) → r ≡ r′
+  event-ok-one h h′ = h ∙ sym h′
 
-module _ (κs : Lfts 1) (a : ArgsD lawful.signature κs) where
-  pub lawful-one : (r r′ : Bool) (s s′ : AtExit (endedOf 1 lawful-kinds.ps lawful-kinds.r) κs) → lawful-reads.Learnt κs a r s → lawful-reads.Learnt κs a r′ s′ → r ≡ r′
-  lawful-one r r′ s s′ h h′ = h ∙ sym h′
+  pub centre-ok-one : centre-ok.Learnt tt (x, tt) r (x₁, tt) → centre-ok.Learnt tt (x, tt) r′ (x₂, tt) → r ≡ r′
+  centre-ok-one h h′ = h ∙ sym h′
 
-  -- what a caller is told, and nothing else
-  pub lawful-says : (r : Bool) (s : AtExit (endedOf 1 lawful-kinds.ps lawful-kinds.r) κs) → lawful-reads.Learnt κs a r s ≡ (r ≡ lawfulOf (recordOf (now (a .0))))
-  lawful-says r s = refl
+  pub class-ok-one : class-ok.Learnt tt (x, tt) r (x₁, tt) → class-ok.Learnt tt (x, tt) r′ (x₂, tt) → r ≡ r′
+  class-ok-one h h′ = h ∙ sym h′
+
+  pub price-ok-one : price-ok.Learnt tt (x, tt) r (x₁, tt) → price-ok.Learnt tt (x, tt) r′ (x₂, tt) → r ≡ r′
+  price-ok-one h h′ = h ∙ sym h′
+
+  pub summary-price-ok-one : summary-price-ok.Learnt tt (x, tt) r (x₁, tt) → summary-price-ok.Learnt tt (x, tt) r′ (x₂, tt) → r ≡ r′
+  summary-price-ok-one h h′ = h ∙ sym h′
+
+  pub size-ok-one : size-ok.Learnt tt (x, tt) r (x₁, tt) → size-ok.Learnt tt (x, tt) r′ (x₂, tt) → r ≡ r′
+  size-ok-one h h′ = h ∙ sym h′
+
+module _ (a b c d a₁ b₁ c₁ d₁ a₂ b₂ c₂ d₂ : ℕ) (r r′ : Bool) where
+  pub condition-ok-one : condition-ok.Learnt tt (a, (b, (c, (d, tt)))) r (a₁, (b₁, (c₁, (d₁, tt))))
+      → condition-ok.Learnt tt (a, (b, (c, (d, tt)))) r′ (a₂, (b₂, (c₂, (d₂, tt)))) → r ≡ r′
+  condition-ok-one h h′ = h ∙ sym h′

@@ -13,7 +13,7 @@ use Rattle.answers.specs.Answers.{numberOf, answerOf}
 use Rattle.answers.specs.Cases.{Case, says, spends, given, inBook}
 use Rattle.answers.proofs.Cases.{Rising}
 use Rattle.answers.proofs.Promise.{one-number-each}
-use Rattle.message.specs.Reading.{readOf}
+use Rattle.message.specs.Reader.{readOf}
 use Rattle.records.specs.declared.Record.{Record}
 use Rattle.message.specs.declared.Reading.{Reading}
 use Rattle.message.proofs.Said.{Said, unshaped, unkept, obeyed, said}

@@ -1,17 +1,18 @@
 -- The kinds are six; each fixes the length of its entries and nothing else.
 -- Assumes nothing.
-use mathlib.Core.Path.{_≡_, refl}
+use mathlib.Core.Path.{_≡_, refl, sym}
 use mathlib.Core.Bool.{Bool, true, false, cond, not, _||_}
 use mathlib.Core.List.{[], _∷_, map}
 use Prim.Native.Nat.{ℕ, suc, _+_}
 use lib.Dec.{eqb}
-use Rattle.message.specs.Reading.{lengthBy}
+use Rattle.message.specs.Judged.{lengthBy}
 use Rattle.kinds.specs.declared.Kind.{Kind}
 use Rattle.kinds.specs.declared.Kind.the-variants.{Event, Trade, Cancel, Correction, Summary, Other}
 use Rattle.kinds.specs.Kinds.{kindOf}
 use Rattle.book.specs.State.{State, Arrival}
 use Rattle.tape.specs.Entries.{lengthIn, messageLength, bodyLength, EntryKind, entryKinds, isKind, Delivers}
 use Rattle.tape.specs.Playing.{acted}
+use Rattle.message.proofs.Lengths.{length-by}
 
 pub record Lengths : Type 0 where
   -- as the table has them, and as they are worked out
@@ -55,8 +56,7 @@ by-type false false false false false = refl
 
 -- a kind has the length of the messages whose letter it bears
 pub as-messages : (k : ℕ) → messageLength k ≡ lengthBy k
-unfolding lengthBy kindOf
-as-messages k = by-type (eqb k 83) (eqb k 84) (eqb k 88) (eqb k 67) (eqb k 74)
+as-messages k = sym (length-by k)
 
 -- and of a message whose length is right the kind says nothing more
 pub length-alone : (s : State) (k k′ : ℕ) (a : Arrival) → acted s (Delivers k a) ≡ acted s (Delivers k′ a)

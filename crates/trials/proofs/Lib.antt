@@ -1,2 +1,3 @@
 pub mod PDays
+pub mod DayW
 pub mod Premises

@@ -26,10 +26,11 @@ use Rattle.octets.specs.Run as Run
 use Rattle.numbers.specs.Number as Number
 use Rattle.texts.specs.Text as Text
 use Rattle.conditions.specs.Conditions as Conditions
-use Rattle.records.specs.Lawful as Lawful
-use Rattle.packed.specs.Packed.{saleAt}
-use Rattle.message.specs.Fields as Fields
-use Rattle.message.specs.Reading as Reading
+use Rattle.layout.specs.Values as Values
+use Rattle.layout.specs.Tables as Tables
+use Rattle.records.specs.Held as Held
+use Rattle.message.specs.Layouts as Layouts
+use Rattle.message.specs.Reader as Reader
 use Rattle.cells.specs.Search as Search
 use Rattle.lines.specs.Lines as Lines
 use Rattle.rows.specs.Rows as Rows
@@ -208,10 +209,8 @@ leftBy day s (n ∷ ns) = leftBy day (deliveredIn s n (day n)) ns
 
 unfoldable pub saidBack : Case → List ℕ
 unfolding Run.tab Run.part Number.be Number.digits Up.up Text.text Conditions.levelAt Conditions.marksOf Conditions.conditionMarks
-    Reading.lengthBy saleAt Fields.fieldsS Fields.fieldsTrade Fields.fieldsJ Fields.fieldsOf
-    Lawful.saleOk Lawful.saleNone Lawful.pricesNone Lawful.tradeOk Lawful.lawfulS Lawful.lawfulT Lawful.lawfulC Lawful.lawfulJ
-    Lawful.lawfulOf
-    Reading.judgedOf Reading.readOf Search.first Lines.lineFrom Lines.lineBytes Lines.usedLines Lines.lineIn Lines.withLine Lines.withDead
+    Layouts.layoutS Layouts.layoutT Layouts.layoutC Layouts.layoutJ Values.roomOf Tables.speltBy Tables.obeysBy
+    Held.saleFrom Held.newFrom Held.recordFrom Held.readBy Reader.readIn Reader.readOf Search.first Lines.lineFrom Lines.lineBytes Lines.usedLines Lines.lineIn Lines.withLine Lines.withDead
     Rows.listingFrom Rows.summaryAt Rows.reportedAt Rows.rowFrom Rows.newRow Rows.reportBytes Rows.summaryBytes Rows.usedRows
     Rows.rowIn Rows.inRow
     Walking.counts Figures.sold Walking.tally Walking.fold Walking.figuresOf Showing.shownOf

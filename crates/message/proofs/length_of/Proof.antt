@@ -1,35 +1,67 @@
 -- `message::length_of` meets its contract.
 -- Assumes nothing.
-use borrow.Author.Tests.{ne-eqb}
-use Rattle.message.specs.Reading as R
+use mathlib.Core.Path.{ap, sym}
+use Rattle.kinds.specs.declared.Kind.{Kind}
+use Rattle.message.specs.Layouts.{layoutS, layoutT, layoutC, layoutJ, layoutOf}
+use Rattle.message.specs.Judged.{sizeIn}
+use borrow.Author.Needs.{needs}
 use Rattle.message.proofs.length_of.Statement.{statement}
 use Rattle.message.proofs.length_of.Tie as tie
 
+enum-told : tie.Need-enum-told
+enum-told c = search needs
+
+enum-told-2 : tie.Need-enum-told-2
+enum-told-2 c = search needs
+
+enum-told-3 : tie.Need-enum-told-3
+enum-told-3 c = search needs
+
+enum-told-4 : tie.Need-enum-told-4
+enum-told-4 c = search needs
+
+enum-told-5 : tie.Need-enum-told-5
+enum-told-5 c = search needs
+
+enum-told-6 : tie.Need-enum-told-6
+enum-told-6 c = search needs
+
 returns : tie.Need-returns
-unfolding R.lengthBy
-returns c = rw (c .match .keys1)
+unfolding layoutS layoutT layoutC layoutJ
+returns c = sym (ap (λ (k : Kind). sizeIn (layoutOf k)) (c .enum-told .given .1))
 
 returns-2 : tie.Need-returns-2
-unfolding R.lengthBy
-returns-2 c = rw (c .match .keys2)
+unfolding layoutS layoutT layoutC layoutJ
+returns-2 c = sym (ap (λ (k : Kind). sizeIn (layoutOf k)) (c .enum-told2 .given .1))
 
 returns-3 : tie.Need-returns-3
-unfolding R.lengthBy
-returns-3 c = rw (c .match .keys3)
+unfolding layoutS layoutT layoutC layoutJ
+returns-3 c = sym (ap (λ (k : Kind). sizeIn (layoutOf k)) (c .enum-told3 .given .1))
 
 returns-4 : tie.Need-returns-4
-unfolding R.lengthBy
-returns-4 c = rw (c .match .keys4)
+unfolding layoutS layoutT layoutC layoutJ
+returns-4 c = sym (ap (λ (k : Kind). sizeIn (layoutOf k)) (c .enum-told4 .given .1))
 
 returns-5 : tie.Need-returns-5
-unfolding R.lengthBy
-returns-5 c = rw (c .match .keys5)
+unfolding layoutS layoutT layoutC layoutJ
+returns-5 c = sym (ap (λ (k : Kind). sizeIn (layoutOf k)) (c .enum-told5 .given .1))
 
 returns-6 : tie.Need-returns-6
-unfolding R.lengthBy
-returns-6 c =
-    let r = c .match .rest in
-    simp (ne-eqb _ _ (r .0 .0 .0 .0 .1), ne-eqb _ _ (r .0 .0 .0 .1), ne-eqb _ _ (r .0 .0 .1), ne-eqb _ _ (r .0 .1), ne-eqb _ _ (r .1))
+returns-6 c = search needs
 
 pub length-of-spec : {M : Type 1} → statement M
-length-of-spec = tie.close (tie.spec returns returns-2 returns-3 returns-4 returns-5 returns-6)
+length-of-spec =
+    tie.close
+    (tie.spec
+    enum-told
+    enum-told-2
+    enum-told-3
+    enum-told-4
+    enum-told-5
+    enum-told-6
+    returns
+    returns-2
+    returns-3
+    returns-4
+    returns-5
+    returns-6)

@@ -1,6 +1,6 @@
 -- `message::put_c` meets its contract.
 -- Assumes nothing.
-use Rattle.message.proofs.Packing.{c-put}
+use Rattle.message.proofs.Moves.{c-put}
 use borrow.Author.Needs.{needs}
 use Rattle.message.proofs.put_c.Statement.{statement}
 use Rattle.message.proofs.put_c.Tie as tie
@@ -11,26 +11,25 @@ copy-four-requires c κs = search needs
 copy-byte-requires : tie.Need-copy-byte-requires
 copy-byte-requires c κs = search needs
 
-copy-requires : tie.Need-copy-requires
-copy-requires c κs = search needs
+copy-run-requires : tie.Need-copy-run-requires
+copy-run-requires c κs = search needs
 
-copy-byte-requires-2 : tie.Need-copy-byte-requires-2
-copy-byte-requires-2 c κs = search needs
-
-copy-byte-requires-3 : tie.Need-copy-byte-requires-3
-copy-byte-requires-3 c κs = search needs
-
-copy-requires-2 : tie.Need-copy-requires-2
-copy-requires-2 c κs = search needs
+copy-run-requires-2 : tie.Need-copy-run-requires-2
+copy-run-requires-2 c κs = search needs
 
 same-length : tie.Need-same-length
 same-length c = search needs
 
 returns : tie.Need-returns
 returns c =
-    let s = c .before .before .before .before .before .before .before .before .before .before .before .before .before .before .before .before .before .before .before .before .before .before .before .before .before .before in
-    let g = c .before .before .before .before .before .before .before .before .before .before .before .before .before .before .before .before .before .before .before .before .before .before .before .before .shared-slice-known .given in
-    rw (c .before .before .copy2 .ensures, c .before .before .before .before .before .before .copy-byte3 .ensures, c .before .before .before .before .before .before .before .before .before .before .copy-byte2 .ensures, c .before .before .before .before .before .before .before .before .before .before .before .before .before .before .copy .ensures, c .before .before .before .before .before .before .before .before .before .before .before .before .before .before .before .before .before .before .copy-byte .ensures, c .before .before .before .before .before .before .before .before .before .before .before .before .before .before .before .before .before .before .before .before .before .before .copy-four .ensures) (c-put (s .args .b .now) (λ i. g i .fits) (s .args .out .now))
+    let fourth = c .before .before in
+    let third = fourth .before .before .before .before in
+    let second = third .before .before .before .before in
+    let first = second .before .before .before .before in
+    let known = first .before .before in
+    let s = known .before .before in
+    rw (fourth .copy-run2 .ensures, third .copy-run .ensures, second .copy-byte .ensures, first .copy-four .ensures)
+    (c-put (s .args .b .now) (λ i. known .shared-slice-known .given i .fits) (s .args .out .now))
 
 pub put-c-spec : {M : Type 1} → statement M
 put-c-spec =
@@ -38,9 +37,7 @@ put-c-spec =
     (tie.spec
     copy-four-requires
     copy-byte-requires
-    copy-requires
-    copy-byte-requires-2
-    copy-byte-requires-3
-    copy-requires-2
+    copy-run-requires
+    copy-run-requires-2
     same-length
     returns)

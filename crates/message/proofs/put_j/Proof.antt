@@ -1,6 +1,6 @@
 -- `message::put_j` meets its contract.
 -- Assumes nothing.
-use Rattle.message.proofs.Packing.{j-put}
+use Rattle.message.proofs.Moves.{j-put}
 use borrow.Author.Needs.{needs}
 use Rattle.message.proofs.put_j.Statement.{statement}
 use Rattle.message.proofs.put_j.Tie as tie
@@ -11,23 +11,25 @@ copy-four-requires c κs = search needs
 copy-byte-requires : tie.Need-copy-byte-requires
 copy-byte-requires c κs = search needs
 
-copy-requires : tie.Need-copy-requires
-copy-requires c κs = search needs
+copy-run-requires : tie.Need-copy-run-requires
+copy-run-requires c κs = search needs
 
-copy-byte-requires-2 : tie.Need-copy-byte-requires-2
-copy-byte-requires-2 c κs = search needs
-
-copy-requires-2 : tie.Need-copy-requires-2
-copy-requires-2 c κs = search needs
+copy-run-requires-2 : tie.Need-copy-run-requires-2
+copy-run-requires-2 c κs = search needs
 
 same-length : tie.Need-same-length
 same-length c = search needs
 
 returns : tie.Need-returns
 returns c =
-    let s = c .before .before .before .before .before .before .before .before .before .before .before .before .before .before .before .before .before .before .before .before .before .before in
-    let g = c .before .before .before .before .before .before .before .before .before .before .before .before .before .before .before .before .before .before .before .before .shared-slice-known .given in
-    rw (c .before .before .copy2 .ensures, c .before .before .before .before .before .before .copy-byte2 .ensures, c .before .before .before .before .before .before .before .before .before .before .copy .ensures, c .before .before .before .before .before .before .before .before .before .before .before .before .before .before .copy-byte .ensures, c .before .before .before .before .before .before .before .before .before .before .before .before .before .before .before .before .before .before .copy-four .ensures) (j-put (s .args .b .now) (λ i. g i .fits) (s .args .out .now))
+    let fourth = c .before .before in
+    let third = fourth .before .before .before .before in
+    let second = third .before .before .before .before in
+    let first = second .before .before .before .before in
+    let known = first .before .before in
+    let s = known .before .before in
+    rw (fourth .copy-run2 .ensures, third .copy-run .ensures, second .copy-byte .ensures, first .copy-four .ensures)
+    (j-put (s .args .b .now) (λ i. known .shared-slice-known .given i .fits) (s .args .out .now))
 
 pub put-j-spec : {M : Type 1} → statement M
 put-j-spec =
@@ -35,8 +37,7 @@ put-j-spec =
     (tie.spec
     copy-four-requires
     copy-byte-requires
-    copy-requires
-    copy-byte-requires-2
-    copy-requires-2
+    copy-run-requires
+    copy-run-requires-2
     same-length
     returns)

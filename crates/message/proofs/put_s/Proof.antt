@@ -1,6 +1,6 @@
 -- `message::put_s` meets its contract.
 -- Assumes nothing.
-use Rattle.message.proofs.Packing.{s-put}
+use Rattle.message.proofs.Moves.{s-put}
 use borrow.Author.Needs.{needs}
 use Rattle.message.proofs.put_s.Statement.{statement}
 use Rattle.message.proofs.put_s.Tie as tie
@@ -19,9 +19,13 @@ same-length c = search needs
 
 returns : tie.Need-returns
 returns c =
-    let s = c .before .before .before .before .before .before .before .before .before .before .before .before .before .before in
-    let g = c .before .before .before .before .before .before .before .before .before .before .before .before .shared-slice-known .given in
-    rw (c .before .before .copy-byte2 .ensures, c .before .before .before .before .before .before .copy-byte .ensures, c .before .before .before .before .before .before .before .before .before .before .copy-four .ensures) (s-put (s .args .b .now) (λ i. g i .fits) (s .args .out .now))
+    let third = c .before .before in
+    let second = third .before .before .before .before in
+    let first = second .before .before .before .before in
+    let known = first .before .before in
+    let s = known .before .before in
+    rw (third .copy-byte2 .ensures, second .copy-byte .ensures, first .copy-four .ensures)
+    (s-put (s .args .b .now) (λ i. known .shared-slice-known .given i .fits) (s .args .out .now))
 
 pub put-s-spec : {M : Type 1} → statement M
 put-s-spec =

@@ -2,9 +2,9 @@
 -- Assumes nothing.
 use mathlib.Core.Path.{ap, _∙_}
 use Rattle.octets.specs.Run.{Bytes}
-use Rattle.packed.specs.Packed.{recordOf}
-use Rattle.packed.proofs.Again.{record-again}
-use Rattle.message.specs.Reading.{readOf}
+use Rattle.records.specs.Packed.{recordOf}
+use Rattle.records.proofs.Again.{record-again}
+use Rattle.message.specs.Reader.{readOf}
 use Rattle.message.proofs.Fitting.{read-fits}
 use borrow.Author.Needs.{needs}
 use Rattle.message.proofs.read.Statement.{statement}
@@ -24,7 +24,8 @@ returns : tie.Need-returns
 returns c =
     let m = c .before .before .before .before .before .args .message .now in
     let q = c .before .before .read-packed .ensures in
-    let f = c .«record» .ensures ∙ ap recordOf (q .1) ∙ record-again (readOf m .found) (read-fits m (entered (c .before .before .before .before))) in
+    let g = read-fits m (entered (c .before .before .before .before)) in
+    let f = c .«record» .ensures ∙ ap recordOf (q .1) ∙ record-again (readOf m .found) g in
     rw (q .0, f)
 
 pub read-spec : {M : Type 1} → statement M

@@ -3,9 +3,9 @@
 use mathlib.Core.Path.{ap, _∙_}
 use Rattle.records.specs.declared.Record.{Record}
 use Rattle.records.specs.Fits.{RecordFits}
-use Rattle.packed.specs.Packed.{recordOf}
-use Rattle.packed.proofs.Again.{record-again}
-use Rattle.message.specs.Writing.{writeAnswer, writeOut}
+use Rattle.records.specs.Packed.{recordOf}
+use Rattle.records.proofs.Again.{record-again}
+use Rattle.message.specs.Writer.{writeAnswer, writeOut}
 use borrow.Author.Needs.{needs}
 use Rattle.message.proofs.write.Statement.{statement}
 use Rattle.message.proofs.write.Tie as tie

@@ -1,0 +1,105 @@
+-- How a field is spelt in bytes, with its rule. A further form is one more constructor, and a clause in each definition here.
+-- Assumes nothing.
+use Prim.Native.Nat.{ℕ, _^_}
+use mathlib.Core.List.{List, [], _∷_}
+use mathlib.Core.Bool.{Bool, true, false, _&&_}
+use lib.Dec.{eqb, leb, ltb}
+use lib.ListN.{length, getD}
+use Rattle.numbers.specs.Number.{be, digits}
+use Rattle.layout.specs.Values.{Value, number, text, Room, octet, num, txt}
+
+-- the rule of a number
+pub data Range : Type 0 where
+  any : Range
+  upTo : ℕ → Range
+  within : ℕ → ℕ → Range
+
+abbrev pub inside : Range → ℕ → Bool
+inside any x = true
+inside (upTo top) x = leb x top
+inside (within least top) x = leb least x && leb x top
+
+-- one byte, a big-endian number, a text; each with its rule
+pub data Form : Type 0 where
+  byte : (ℕ → Bool) → Form
+  big : Range → Form
+  chars : (List ℕ → Bool) → Form
+
+-- ---- bytes to a value, a value to bytes
+
+-- the value that bytes spell
+abbrev pub reads : Form → List ℕ → Value
+reads (byte p) xs = number (getD xs 0 0)
+reads (big p) xs = number (be xs)
+reads (chars p) xs = text xs
+
+-- a value, spelt in so many bytes
+abbrev pub writes : Form → ℕ → Value → List ℕ
+writes (byte p) n (number x) = x ∷ []
+writes (byte p) n (text xs) = []
+writes (big p) n (number x) = digits n x
+writes (big p) n (text xs) = []
+writes (chars p) n (number x) = []
+writes (chars p) n (text xs) = xs
+
+-- the value keeps the rule
+abbrev pub keeps : Form → Value → Bool
+keeps (byte p) (number x) = p x
+keeps (byte p) (text xs) = false
+keeps (big r) (number x) = inside r x
+keeps (big r) (text xs) = false
+keeps (chars p) (number x) = false
+keeps (chars p) (text xs) = p xs
+
+-- the bytes spell a value: in these three forms any bytes do
+abbrev pub spells : Form → List ℕ → Bool
+spells (byte p) xs = true
+spells (big p) xs = true
+spells (chars p) xs = true
+
+-- and in the one way in which it is written: these three forms have no other
+abbrev pub plain : Form → List ℕ → Bool
+plain (byte p) xs = true
+plain (big p) xs = true
+plain (chars p) xs = true
+
+-- ---- room
+
+-- the value has room in so many bytes
+abbrev pub fits : Form → ℕ → Value → Bool
+fits (byte p) n (number x) = true
+fits (byte p) n (text xs) = false
+fits (big p) n (number x) = ltb x (256 ^ n)
+fits (big p) n (text xs) = false
+fits (chars p) n (number x) = false
+fits (chars p) n (text xs) = eqb (length xs) n
+
+-- no number of a range, of so many bits, reaches a bound
+abbrev pub topped : Range → ℕ → ℕ → Bool
+topped any b bound = leb (2 ^ b) bound
+topped (upTo top) b bound = ltb top bound
+topped (within least top) b bound = ltb top bound
+
+-- a form is well made for a width and a field's room: what keeps its rule has room in the bytes
+abbrev pub suits : Form → ℕ → Room → Bool
+suits (byte p) n octet = eqb n 1
+suits (byte p) n (num b) = false
+suits (byte p) n (txt c) = false
+suits (big r) n octet = false
+suits (big r) n (num b) = topped r b (256 ^ n)
+suits (big r) n (txt c) = false
+suits (chars p) n octet = false
+suits (chars p) n (num b) = false
+suits (chars p) n (txt c) = eqb c n
+
+-- and the other way round: what is read from so many bytes has room in the record
+abbrev pub narrow : Form → ℕ → Room → Bool
+narrow (byte p) n octet = true
+narrow (byte p) n (num b) = false
+narrow (byte p) n (txt c) = false
+narrow (big r) n octet = false
+narrow (big r) n (num b) = leb (256 ^ n) (2 ^ b)
+narrow (big r) n (txt c) = false
+narrow (chars p) n octet = false
+narrow (chars p) n (num b) = false
+narrow (chars p) n (txt c) = eqb c n

@@ -1,0 +1,4 @@
+pub mod Values
+pub mod Forms
+pub mod Tables
+pub mod Carrying

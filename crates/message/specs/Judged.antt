@@ -1,0 +1,61 @@
+-- What is said by the layout of a type, where the type has one: the length of its messages, the record that one fills, the message of a
+-- record, the rules.
+-- Assumes nothing.
+use Prim.Native.Nat.{ℕ}
+use mathlib.Core.List.{List, []}
+use mathlib.Core.Bool.{Bool, true, false, _&&_}
+use mathlib.Core.Option.{Option, none, some}
+use lib.ListN.{getD}
+use Rattle.layout.specs.Forms.{inside, keeps}
+use Rattle.layout.specs.Tables.{Entry, fieldOf, formOf, Layout, allFrom}
+use Rattle.records.specs.declared.Record.{Record}
+use Rattle.records.specs.Zeros.{noRecord}
+use Rattle.records.specs.Held.{holds, readBy, writeBy, kept, lawful}
+use Rattle.rules.specs.Rules as Rules
+use Rattle.message.specs.Layouts.{letterPlace, layoutBy}
+
+abbrev pub sizeIn : Option Layout → ℕ
+sizeIn none = 0
+sizeIn (some l) = l .size
+
+abbrev pub filledIn : Option Layout → List ℕ → Record
+filledIn none m = noRecord
+filledIn (some l) m = readBy l m
+
+abbrev pub bytesIn : Option Layout → Record → List ℕ
+bytesIn none r = []
+bytesIn (some l) r = writeBy l r
+
+abbrev pub keptIn : Option Layout → Record → Bool
+keptIn none r = false
+keptIn (some l) r = kept l r
+
+abbrev pub lawfulIn : Option Layout → Record → Bool
+lawfulIn none r = false
+lawfulIn (some l) r = lawful l r
+
+-- ---- by the letter
+
+-- the length of a type's messages; 0 for a letter of no type
+unfoldable pub lengthBy : ℕ → ℕ
+lengthBy k = sizeIn (layoutBy k)
+
+-- the record that a message fills, before any rule is asked
+unfoldable pub fieldsOf : List ℕ → Record
+fieldsOf m = filledIn (layoutBy (getD m letterPlace 0)) m
+
+unfoldable pub bytesOf : Record → List ℕ
+bytesOf r = bytesIn (layoutBy (r .letter)) r
+
+unfoldable pub lawfulOf : Record → Bool
+lawfulOf r = lawfulIn (layoutBy (r .letter)) r
+
+-- ---- in pieces, as the code asks them
+
+-- the rules of the fields of some lines of a table
+abbrev pub rulesOf : List Entry → Record → Bool
+rulesOf es r = allFrom (λ e. keeps (formOf e) (holds r (fieldOf e))) true es
+
+-- the rules of a trade, behind other tests: control, price, size, condition
+unfoldable pub saleRules : Bool → List ℕ → ℕ → ℕ → List ℕ → Bool
+saleRules t c p s d = t && Rules.text c && inside Rules.tradePrice p && inside Rules.size s && Rules.condition d
