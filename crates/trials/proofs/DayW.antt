@@ -11,9 +11,9 @@ use Rattle.walk.specs.Figures as Figures
 use Rattle.show.specs.declared.Net.the-variants.{Amount}
 use Rattle.show.specs.Showing as Showing
 use Rattle.book.specs.Calls as Calls
-use Rattle.book.specs.Calls.{rowShown}
-use Rattle.tape.specs.Day.{abcd, tapeW, playW}
+use Rattle.book.specs.Calls.{shown}
+use Rattle.trials.specs.DayW.{abcd, tapeW, playW}
 use Rattle.tape.specs.declared.Stop.the-variants.{Ended}
 
 pub w-played : (playW .state .counters .taken ≡ 6) × (playW .state .counters .wanted ≡ 7) × (playW .used ≡ length tapeW)
     × (length tapeW ≡ 296) × (playW .stop ≡ Ended)
@@ -21,7 +21,7 @@ unfolding playW
 w-played = (refl, refl, refl, refl, refl)
 
 -- the row that document 01 prints of the day
-pub w-shown : rowShown (playW .state .counters) (playW .state .rows) (playW .state .lines) abcd
+pub w-shown : shown (playW .state) abcd
     ≡ record {
       answer = answerOf 0;
       row =
@@ -38,5 +38,5 @@ pub w-shown : rowShown (playW .state .counters) (playW .state .rows) (playW .sta
             reported = Volume 600;
           };
     }
-unfolding playW Figures.counts Figures.sold Figures.tally Figures.fold Figures.figuresOf Showing.shownOf Calls.rowAnswer Calls.rowShown
+unfolding playW Figures.counts Figures.sold Figures.tally Figures.fold Figures.figuresOf Showing.shownOf Calls.rowAnswer Calls.shown
 w-shown = refl

@@ -1,2 +1,3 @@
 pub mod PDays
 pub mod Premises
+pub mod DayW
