@@ -7,6 +7,7 @@ use lib.Dec.{eqb, lit≤}
 use lib.ListN.{length, List·getD-eq-default}
 use Rattle.records.specs.declared.Record.{Record}
 use Rattle.records.specs.Fits.{RecordFits}
+use Rattle.message.specs.Layouts.{layoutS, layoutT, layoutC, layoutJ}
 use Rattle.message.specs.Judged.{lengthBy}
 use Rattle.message.proofs.Lengths.{length-by}
 use Rattle.counters.specs.declared.Counters.{Counters}
@@ -14,7 +15,7 @@ use Rattle.show.specs.declared.RowShown.{RowShown}
 use Rattle.words.specs.Words.{counterWords, rowWords}
 use Rattle.rows.specs.Rows.{rowLimit}
 use Rattle.lines.specs.Lines.{lineLimit}
-use Rattle.records.specs.Packed.{recordBytes}
+use Rattle.records.specs.Packed.{packed, recordBytes}
 use Rattle.records.proofs.Stores.{fits-long, record-length}
 use Rattle.cabinet.specs.Sizes.{sizes, sizeOf}
 
@@ -44,7 +45,7 @@ either true a b n h k = h
 either false a b n h k = k
 
 pub sizes-are : SizesAre
-unfolding sizeOf counterWords rowWords
+unfolding sizeOf counterWords rowWords layoutS layoutT layoutC layoutJ packed
 sizes-are =
     record {
       rows = λ room. refl;

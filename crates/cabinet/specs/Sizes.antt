@@ -5,12 +5,17 @@ use mathlib.Core.List.{List, [], _∷_}
 use lib.ListN.{getD}
 use Rattle.lines.specs.Cell.{lineCell, lineCap}
 use Rattle.rows.specs.Cell.{rowCell, rowCap}
+use Rattle.kinds.specs.declared.Kind.the-variants.{Event, Trade, Cancel, Correction, Summary}
+use Rattle.message.specs.Judged.{lengthOf}
+use Rattle.records.specs.Packed.{packed}
 use Rattle.words.specs.Words.{counterCount, rowCount}
 
 -- 0 bytes of a row's cell, 1 rows at most, 2 bytes of a line's cell, 3 lines at most, 4 bytes of the longest message, 5 bytes of a record,
 -- 6 words of the counters, 7 words of a row, and 8 to 12 the bytes of a message of type S, T, X, C, J
 abbrev pub sizes : List ℕ
-sizes = rowCell ∷ rowCap ∷ lineCell ∷ lineCap ∷ 67 ∷ 80 ∷ counterCount ∷ rowCount ∷ 6 ∷ 45 ∷ 45 ∷ 67 ∷ 34 ∷ []
+sizes =
+    rowCell ∷ rowCap ∷ lineCell ∷ lineCap ∷ lengthOf Correction ∷ packed .size ∷ counterCount ∷ rowCount
+    ∷ lengthOf Event ∷ lengthOf Trade ∷ lengthOf Cancel ∷ lengthOf Correction ∷ lengthOf Summary ∷ []
 
 unfoldable pub sizeOf : ℕ → ℕ
 sizeOf which = getD sizes which 0

@@ -16,17 +16,6 @@ ghost use Rattle.records.specs.Packed.{recordOf, recordBytes};
 ghost use Rattle.cabinet.specs.Sizes.{sizeOf};
 ghost use Rattle.cabinet.specs.Crossing.{stateOf, listingWith, crossed, crossing};
 
-
-
-// The bytes of a message of each type; an X is as long as a T, and no message is longer than a C.
-const EVENT: u64 = 6;
-
-const TRADE: u64 = 45;
-
-const CORRECTION: u64 = 67;
-
-const SUMMARY: u64 = 34;
-
 // The number of an answer in the table: what every call but the first and the last tells.
 fn told(a: Answer) -> u8
     ensures { λ n. ⌜ n ≡ numberOf a ⌝ }
@@ -145,15 +134,15 @@ pub extern "C" fn sorundappa_size(which: u64) -> u64
         1 => rows::CAP as u64,
         2 => lines::CELL as u64,
         3 => lines::CAP as u64,
-        4 => CORRECTION,
+        4 => message::C_LENGTH as u64,
         5 => records::RECORD as u64,
         6 => words::COUNTERS as u64,
         7 => words::ROW as u64,
-        8 => EVENT,
-        9 => TRADE,
-        10 => TRADE,
-        11 => CORRECTION,
-        12 => SUMMARY,
+        8 => message::S_LENGTH as u64,
+        9 => message::T_LENGTH as u64,
+        10 => message::T_LENGTH as u64,
+        11 => message::C_LENGTH as u64,
+        12 => message::J_LENGTH as u64,
         _ => 0,
     }
 }

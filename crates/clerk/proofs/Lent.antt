@@ -55,11 +55,21 @@ filled-bytes : (k : Kind) (m : List ℕ) → Bytes m → RecordBytes (filledIn (
 unfolding readBy recordFrom saleFrom newFrom roomOf layoutS layoutT layoutC layoutJ
 filled-bytes Event m b = record { centre = lit< tt; symbol = zeros-bytes 8; sale = no-sale-bytes; new = no-sale-bytes }
 filled-bytes Trade m b =
-    record { centre = byte-bytes m 5 b; symbol = part-bytes m 6 8 b; sale = record
-    { control = part-bytes m 15 10 b; condition = part-bytes m 33 4 b }; new = no-sale-bytes }
+    record {
+      centre = byte-bytes m 5 b;
+      symbol = part-bytes m 6 8 b;
+      sale = record
+          { control = part-bytes m 15 10 b; condition = part-bytes m 33 4 b };
+      new = no-sale-bytes;
+    }
 filled-bytes Cancel m b =
-    record { centre = byte-bytes m 5 b; symbol = part-bytes m 6 8 b; sale = record
-    { control = part-bytes m 15 10 b; condition = part-bytes m 33 4 b }; new = no-sale-bytes }
+    record {
+      centre = byte-bytes m 5 b;
+      symbol = part-bytes m 6 8 b;
+      sale = record
+          { control = part-bytes m 15 10 b; condition = part-bytes m 33 4 b };
+      new = no-sale-bytes;
+    }
 filled-bytes Correction m b =
     record {
       centre = byte-bytes m 5 b;

@@ -4,12 +4,14 @@
 -- Assumes nothing.
 use mathlib.Core.Path.{_≡_, refl, sym, _∙_}
 use mathlib.Core.Bool.{Bool}
+use Prim.Native.Nat.{ℕ}
 use contract.Lifetimes.{Lfts}
 use borrow.Fn.World.{ArgsD}
 use borrow.Fn.Kinds.{endedOf}
 use denote.Triple.Clauses.{AtExit}
 use denote.Ref.{now}
 use Rattle.answers.specs.declared.Answer.{Answer}
+use Rattle.kinds.specs.declared.Kind.{Kind}
 use Rattle.records.specs.Packed.{recordBytes, recordOf}
 use Rattle.message.specs.declared.Reading.{Reading}
 use Rattle.message.specs.Layouts.{layoutOf}
@@ -22,6 +24,7 @@ use Rattle.message.proofs.judge.kept.Kinds as kept-kinds
 use Rattle.message.proofs.judge.lawful as lawful
 use Rattle.message.proofs.judge.lawful.Reads as lawful-reads
 use Rattle.message.proofs.judge.lawful.Kinds as lawful-kinds
+use Rattle.message.proofs.length_of.Reads as length-of-reads
 use Rattle.message.proofs.read as read
 use Rattle.message.proofs.read.Reads as read-reads
 use Rattle.message.proofs.read.Kinds as read-kinds
@@ -34,6 +37,10 @@ use Rattle.message.proofs.read_packed.Kinds as read-packed-kinds
 use Rattle.message.proofs.write_packed as write-packed
 use Rattle.message.proofs.write_packed.Reads as write-packed-reads
 use Rattle.message.proofs.write_packed.Kinds as write-packed-kinds
+
+pub length-of-one : (k k₁ k₂ : Kind) (n n′ : ℕ) → length-of-reads.Learnt tt (k, tt) n (k₁, tt)
+    → length-of-reads.Learnt tt (k, tt) n′ (k₂, tt) → n ≡ n′
+length-of-one k k₁ k₂ n n′ h h′ = h ∙ sym h′
 
 module _ (κs : Lfts 1) (a : ArgsD read.signature κs) where
   -- what `read` tells of a message is what `readOf` says of its bytes, and nothing else

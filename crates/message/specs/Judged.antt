@@ -6,17 +6,22 @@ use mathlib.Core.List.{List, []}
 use mathlib.Core.Bool.{Bool, true, false, _&&_}
 use mathlib.Core.Option.{Option, none, some}
 use lib.ListN.{getD}
+use Rattle.kinds.specs.declared.Kind.{Kind}
 use Rattle.layout.specs.Forms.{inside, keeps}
 use Rattle.layout.specs.Tables.{Entry, fieldOf, formOf, Layout, allFrom}
 use Rattle.records.specs.declared.Record.{Record}
 use Rattle.records.specs.Zeros.{noRecord}
 use Rattle.records.specs.Held.{holds, readBy, writeBy, kept, lawful}
 use Rattle.rules.specs.Rules as Rules
-use Rattle.message.specs.Layouts.{letterPlace, layoutBy}
+use Rattle.message.specs.Layouts.{letterPlace, layoutOf, layoutBy}
 
 abbrev pub sizeIn : Option Layout → ℕ
 sizeIn none = 0
 sizeIn (some l) = l .size
+
+-- the length of a type's messages; 0 of what is no type
+abbrev pub lengthOf : Kind → ℕ
+lengthOf k = sizeIn (layoutOf k)
 
 abbrev pub filledIn : Option Layout → List ℕ → Record
 filledIn none m = noRecord
@@ -36,7 +41,7 @@ lawfulIn (some l) r = lawful l r
 
 -- ---- by the letter
 
--- the length of a type's messages; 0 for a letter of no type
+-- and by its letter
 unfoldable pub lengthBy : ℕ → ℕ
 lengthBy k = sizeIn (layoutBy k)
 

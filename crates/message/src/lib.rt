@@ -25,11 +25,20 @@ ghost use lib.Seq.{sets};
 ghost use Rattle.records.specs.Held.{readBy, writeBy};
 ghost use Rattle.records.specs.Packed.{recordOf, recordBytes};
 ghost use Rattle.message.specs.Layouts.{layoutS, layoutT, layoutC, layoutJ, layoutOf};
-ghost use Rattle.message.specs.Judged.{sizeIn, filledIn, bytesIn};
+ghost use Rattle.message.specs.Judged.{lengthOf, filledIn, bytesIn};
 ghost use Rattle.message.specs.Reader.{readOf};
 ghost use Rattle.message.specs.Writer.{writeAnswer, writeOut};
 
 pub mod judge;
+
+// The bytes of a message of each type; an X is as long as a T.
+pub const S_LENGTH: usize = 6;
+
+pub const T_LENGTH: usize = 45;
+
+pub const C_LENGTH: usize = 67;
+
+pub const J_LENGTH: usize = 34;
 
 // Where a message has its time, its letter, and what stands behind the letter.
 const M_TIME: usize = 0;
@@ -37,16 +46,19 @@ const M_TIME: usize = 0;
 const M_LETTER: usize = 4;
 
 const M_BODY: usize = 5;
+
 // Centre to condition in T, X and C: 32 bytes; with the new trade of a C 54.
 const TRADE: usize = 32;
 
 const TRADES: usize = 54;
+
 // Symbol and class, and the three prices and the volume, of a J.
 const NAMED: usize = 9;
 
 const FIGURES: usize = 20;
 
 const J_HIGH: usize = 14;
+
 // The consolidated volume of T and X, and of C.
 const VOLUME: usize = 8;
 
@@ -61,15 +73,15 @@ pub struct Reading {
 }
 
 // The length of a type's messages; 0 for what is no type.
-fn length_of(kind: Kind) -> usize
-    ensures { λ r. ⌜ r ≡ sizeIn (layoutOf kind) ⌝ }
+pub fn length_of(kind: Kind) -> usize
+    ensures { λ n. ⌜ n ≡ lengthOf kind ⌝ }
 {
     match kind {
-        Kind::Event => 6,
-        Kind::Trade => 45,
-        Kind::Cancel => 45,
-        Kind::Correction => 67,
-        Kind::Summary => 34,
+        Kind::Event => S_LENGTH,
+        Kind::Trade => T_LENGTH,
+        Kind::Cancel => T_LENGTH,
+        Kind::Correction => C_LENGTH,
+        Kind::Summary => J_LENGTH,
         Kind::Other => 0,
     }
 }

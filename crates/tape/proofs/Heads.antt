@@ -14,7 +14,9 @@ use lib.Seq.{drop-cons}
 use Rattle.kinds.specs.declared.Kind.{Kind}
 use Rattle.kinds.specs.declared.Kind.the-variants.{Event, Trade, Cancel, Correction, Summary, Other}
 use Rattle.kinds.specs.Kinds.{kindOf}
-use Rattle.tape.specs.Entries.{listingLetter, numberBytes, lengthIn, messageLength, bodyLength, headOf}
+use Rattle.message.specs.Layouts.{layoutS, layoutT, layoutC, layoutJ}
+use Rattle.message.specs.Judged.{lengthOf}
+use Rattle.tape.specs.Entries.{listingLetter, numberBytes, messageLength, bodyLength, headOf}
 use Rattle.tape.specs.declared.entries.Head.the-variants.{Whole, Stops}
 use Rattle.tape.specs.declared.Stop.{Stop}
 use Rattle.tape.specs.declared.Stop.the-variants.{Ended, NoKind, CutShort}
@@ -53,7 +55,8 @@ Some n = (n ≡ 0) ⊎ ((6 ≤ n) × (n ≤ 67))
 some : (n : ℕ) → 6 ≤ n → n ≤ 67 → Some n
 some n a b = inr (a, b)
 
-length-some : (k : Kind) → Some (lengthIn k)
+length-some : (k : Kind) → Some (lengthOf k)
+unfolding layoutS layoutT layoutC layoutJ
 length-some Event = some 6 (lit≤ tt) (lit≤ tt)
 length-some Trade = some 45 (lit≤ tt) (lit≤ tt)
 length-some Cancel = some 45 (lit≤ tt) (lit≤ tt)
@@ -61,18 +64,18 @@ length-some Correction = some 67 (lit≤ tt) (lit≤ tt)
 length-some Summary = some 34 (lit≤ tt) (lit≤ tt)
 length-some Other = inl refl
 
-pub length-top : (k : Kind) (n : ℕ) → n ≡ lengthIn k → n ≤ 67
+pub length-top : (k : Kind) (n : ℕ) → n ≡ lengthOf k → n ≤ 67
 length-top k n e = go (length-some k)
   where
-    go : Some (lengthIn k) → n ≤ 67
+    go : Some (lengthOf k) → n ≤ 67
     go (inl z) = omega arith
     go (inr h) = omega arith
 
 -- ---- the turns of `body_length`
 
-module _ (k : ℕ) (other : k ≡ listingLetter → ⊥) (type : Kind) (e : type ≡ kindOf k) (n : ℕ) (f : n ≡ lengthIn type) where
+module _ (k : ℕ) (other : k ≡ listingLetter → ⊥) (type : Kind) (e : type ≡ kindOf k) (n : ℕ) (f : n ≡ lengthOf type) where
   length-is : n ≡ messageLength k
-  length-is = f ∙ ap lengthIn e
+  length-is = f ∙ ap lengthOf e
 
   pub none-is : n ≡ 0 → 0 ≡ bodyLength k
   unfolding bodyLength

@@ -9,8 +9,9 @@ use lib.ListN.{length, drop, getD}
 use Rattle.octets.specs.Run.{part}
 use Rattle.numbers.specs.Number.{be, digits}
 use Rattle.kinds.specs.declared.Kind.{Kind}
-use Rattle.kinds.specs.declared.Kind.the-variants.{Event, Trade, Cancel, Correction, Summary, Other}
+use Rattle.kinds.specs.declared.Kind.the-variants.{Event, Trade, Cancel, Correction, Summary}
 use Rattle.kinds.specs.Kinds.{letterOf, kindOf}
+use Rattle.message.specs.Judged.{lengthOf}
 use Rattle.rows.specs.declared.Listing.{Listing}
 use Rattle.book.specs.State.{Arrival, arrives}
 use Rattle.tape.specs.declared.Stop.{Stop}
@@ -37,20 +38,11 @@ closeBytes = 4
 abbrev pub numberBytes : ℕ
 numberBytes = 4
 
--- how many bytes are delivered of each type; none of what is no type
-abbrev pub lengthIn : Kind → ℕ
-lengthIn Event = 6
-lengthIn Trade = 45
-lengthIn Cancel = 45
-lengthIn Correction = 67
-lengthIn Summary = 34
-lengthIn Other = 0
-
 -- ---- the kinds
 
 -- the bytes that a kind byte says are delivered; 0 if it is the letter of no type
 abbrev pub messageLength : ℕ → ℕ
-messageLength k = lengthIn (kindOf k)
+messageLength k = lengthOf (kindOf k)
 
 -- L: symbol, close; S T X C J: number, and the message; 0 where the byte is no kind
 unfoldable pub bodyLength : ℕ → ℕ
@@ -64,7 +56,7 @@ pub record EntryKind : Type 0 where
 
 -- kind, number, message
 abbrev pub messageKind : Kind → EntryKind
-messageKind k = record { letter = letterOf k; size = kindBytes + numberBytes + lengthIn k }
+messageKind k = record { letter = letterOf k; size = kindBytes + numberBytes + lengthOf k }
 
 -- the six kinds: L, then S T X C J
 abbrev pub entryKinds : List EntryKind

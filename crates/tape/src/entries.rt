@@ -1,8 +1,8 @@
 // One entry of a tape: what stands at a place, and what the book is told of it.
 use crate::Stop;
 use counters::Counters;
-use kinds::Kind;
 use kinds::kind_of;
+use message::length_of;
 use numbers::number4;
 use octets::run::byte;
 use octets::run::fill;
@@ -11,7 +11,7 @@ ghost use mathlib.Core.Path.{_≡_};
 ghost use Prim.Native.Nat.{_+_, _≤_};
 ghost use lib.ListN.{length, drop};
 ghost use Rattle.book.specs.State.{lent};
-ghost use Rattle.tape.specs.Entries.{kindBytes, numberBytes, lengthIn, bodyLength, headOf};
+ghost use Rattle.tape.specs.Entries.{kindBytes, numberBytes, bodyLength, headOf};
 ghost use Rattle.tape.specs.Entries.{Lists, listingIn, delivery, entryOf};
 ghost use Rattle.tape.specs.Playing.{acted};
 
@@ -35,29 +35,6 @@ const CLOSE_AT: usize = KIND + SYMBOL;
 
 const MESSAGE_AT: usize = KIND + NUMBER;
 
-// How many bytes are delivered of each type. A cancel is as long as a trade.
-const EVENT: usize = 6;
-
-const TRADE: usize = 45;
-
-const CORRECTION: usize = 67;
-
-const SUMMARY: usize = 34;
-
-// How many bytes a message of a type has; 0 where it is no type.
-fn message_length(kind: Kind) -> usize
-    ensures { λ n. ⌜ n ≡ lengthIn kind ⌝ }
-{
-    match kind {
-        Kind::Event => EVENT,
-        Kind::Trade => TRADE,
-        Kind::Cancel => TRADE,
-        Kind::Correction => CORRECTION,
-        Kind::Summary => SUMMARY,
-        Kind::Other => 0,
-    }
-}
-
 // How many bytes follow a kind byte: symbol and close, or number and message; 0 where the byte is no kind.
 fn body_length(letter: u8) -> usize
     ensures { λ n. ⌜ n ≡ bodyLength letter ⌝ }
@@ -65,7 +42,7 @@ fn body_length(letter: u8) -> usize
     if letter == b'L' {
         return SYMBOL + CLOSE;
     }
-    let n = message_length(kind_of(letter));
+    let n = length_of(kind_of(letter));
     if n == 0 {
         return 0;
     }

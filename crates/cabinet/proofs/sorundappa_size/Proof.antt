@@ -3,6 +3,8 @@
 use Prim.Native.Nat.{ℕ, _+_, _≤_}
 use mathlib.Core.Path.{_≡_, sym}
 use native.Mathlib.Omega.{arith}
+use Rattle.message.specs.Layouts.{layoutS, layoutT, layoutC, layoutJ}
+use Rattle.records.specs.Packed.{packed}
 use Rattle.cabinet.specs.Sizes.{sizeOf}
 use Rattle.cabinet.proofs.Sizes.{size-none}
 use Rattle.cabinet.proofs.sorundappa_size.Statement.{statement}
@@ -25,11 +27,11 @@ unfolding sizeOf
 returns-4 c = rw (c .match .keys4)
 
 returns-5 : tie.Need-returns-5
-unfolding sizeOf
+unfolding sizeOf layoutS layoutT layoutC layoutJ
 returns-5 c = rw (c .match .keys5)
 
 returns-6 : tie.Need-returns-6
-unfolding sizeOf
+unfolding sizeOf packed
 returns-6 c = rw (c .match .keys6)
 
 returns-7 : tie.Need-returns-7
@@ -41,23 +43,23 @@ unfolding sizeOf
 returns-8 c = rw (c .match .keys8)
 
 returns-9 : tie.Need-returns-9
-unfolding sizeOf
+unfolding sizeOf layoutS layoutT layoutC layoutJ
 returns-9 c = rw (c .match .keys9)
 
 returns-10 : tie.Need-returns-10
-unfolding sizeOf
+unfolding sizeOf layoutS layoutT layoutC layoutJ
 returns-10 c = rw (c .match .keys10)
 
 returns-11 : tie.Need-returns-11
-unfolding sizeOf
+unfolding sizeOf layoutS layoutT layoutC layoutJ
 returns-11 c = rw (c .match .keys11)
 
 returns-12 : tie.Need-returns-12
-unfolding sizeOf
+unfolding sizeOf layoutS layoutT layoutC layoutJ
 returns-12 c = rw (c .match .keys12)
 
 returns-13 : tie.Need-returns-13
-unfolding sizeOf
+unfolding sizeOf layoutS layoutT layoutC layoutJ
 returns-13 c = rw (c .match .keys13)
 
 -- a number that is not the next one is past it

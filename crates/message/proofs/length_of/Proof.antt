@@ -1,9 +1,8 @@
 -- `message::length_of` meets its contract.
 -- Assumes nothing.
 use mathlib.Core.Path.{ap, sym}
-use Rattle.kinds.specs.declared.Kind.{Kind}
-use Rattle.message.specs.Layouts.{layoutS, layoutT, layoutC, layoutJ, layoutOf}
-use Rattle.message.specs.Judged.{sizeIn}
+use Rattle.message.specs.Layouts.{layoutS, layoutT, layoutC, layoutJ}
+use Rattle.message.specs.Judged.{lengthOf}
 use borrow.Author.Needs.{needs}
 use Rattle.message.proofs.length_of.Statement.{statement}
 use Rattle.message.proofs.length_of.Tie as tie
@@ -28,23 +27,23 @@ enum-told-6 c = search needs
 
 returns : tie.Need-returns
 unfolding layoutS layoutT layoutC layoutJ
-returns c = sym (ap (λ (k : Kind). sizeIn (layoutOf k)) (c .enum-told .given .1))
+returns c = sym (ap lengthOf (c .enum-told .given .1))
 
 returns-2 : tie.Need-returns-2
 unfolding layoutS layoutT layoutC layoutJ
-returns-2 c = sym (ap (λ (k : Kind). sizeIn (layoutOf k)) (c .enum-told2 .given .1))
+returns-2 c = sym (ap lengthOf (c .enum-told2 .given .1))
 
 returns-3 : tie.Need-returns-3
 unfolding layoutS layoutT layoutC layoutJ
-returns-3 c = sym (ap (λ (k : Kind). sizeIn (layoutOf k)) (c .enum-told3 .given .1))
+returns-3 c = sym (ap lengthOf (c .enum-told3 .given .1))
 
 returns-4 : tie.Need-returns-4
 unfolding layoutS layoutT layoutC layoutJ
-returns-4 c = sym (ap (λ (k : Kind). sizeIn (layoutOf k)) (c .enum-told4 .given .1))
+returns-4 c = sym (ap lengthOf (c .enum-told4 .given .1))
 
 returns-5 : tie.Need-returns-5
 unfolding layoutS layoutT layoutC layoutJ
-returns-5 c = sym (ap (λ (k : Kind). sizeIn (layoutOf k)) (c .enum-told5 .given .1))
+returns-5 c = sym (ap lengthOf (c .enum-told5 .given .1))
 
 returns-6 : tie.Need-returns-6
 returns-6 c = search needs

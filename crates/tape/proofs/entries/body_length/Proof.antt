@@ -17,25 +17,25 @@ returns c = simp (eq-eqb _ _ (c .if1 .taken))
 kind-of-requires : tie.Need-kind-of-requires
 kind-of-requires c κs = search needs
 
-message-length-requires : tie.Need-message-length-requires
-message-length-requires c κs = search needs
+length-of-requires : tie.Need-length-of-requires
+length-of-requires c κs = search needs
 
 returns-2 : tie.Need-returns-2
 returns-2 c =
     let a = c .before .before .before .before .args in
     none-is (a .letter) (c .before .before .before .if1 .left) _ (c .before .before .kind-of .ensures) _
-    (c .before .message-length .ensures) (c .if2 .taken)
+    (c .before .length-of .ensures) (c .if2 .taken)
 
 add-result-2 : tie.Need-add-result-2
 add-result-2 c =
-    let h = length-top (c .before .before .kind-of .result) _ (c .before .message-length .ensures) in
+    let h = length-top (c .before .before .kind-of .result) _ (c .before .length-of .ensures) in
     search needs
 
 returns-3 : tie.Need-returns-3
 returns-3 c =
     let a = c .before .before .before .before .args in
     some-is (a .letter) (c .before .before .before .if1 .left) _ (c .before .before .kind-of .ensures) _
-    (c .before .message-length .ensures) (c .if2 .left)
+    (c .before .length-of .ensures) (c .if2 .left)
 
 pub body-length-spec : {M : Type 1} → statement M
 body-length-spec =
@@ -44,7 +44,7 @@ body-length-spec =
     add-result
     returns
     kind-of-requires
-    message-length-requires
+    length-of-requires
     returns-2
     add-result-2
     returns-3)
