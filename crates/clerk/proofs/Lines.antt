@@ -179,14 +179,6 @@ named-live key ls b d = go (lineWith key ls) b d
 unfoldable pub kill : List ℕ → Line → Line
 kill key l = cond (same (l .key) key) (dead l) l
 
-kill-key : (key : List ℕ) (l : Line) → kill key l .key ≡ l .key
-unfolding kill
-kill-key key l = go (same (l .key) key)
-  where
-    go : (t : Bool) → cond t (dead l) l .key ≡ l .key
-    go true = refl
-    go false = refl
-
 kill-none : (key : List ℕ) (ls : List Line) → isIn key (keysOf ls) ≡ false → map (kill key) ls ≡ ls
 unfolding kill
 kill-none key [] h = refl

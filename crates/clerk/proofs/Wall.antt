@@ -3,12 +3,11 @@
 use Prim.Native.Nat.{ℕ}
 use mathlib.Core.Path.{_≡_, refl, sym, ap, subst, _∙_}
 use mathlib.Core.Logic.{⊎-elim}
-use mathlib.Core.Bool.{Bool, true, false, cond, not, _||_, true≢false}
-use mathlib.Core.List.{List, [], _∷_, map, List·Memᴰ, List·Memᴰ·head, List·Memᴰ·tail, List·Memᴰ·not-nil, List·Memᴰ·cases-cons}
+use mathlib.Core.Bool.{Bool, true, false, cond, not, true≢false}
+use mathlib.Core.List.{List, [], _∷_, map, List·Memᴰ, List·Memᴰ·not-nil, List·Memᴰ·cases-cons}
 use native.Mathlib.Omega.{arith}
 use lib.ListN.{getD}
 use Rattle.octets.specs.Run.{same}
-use Rattle.octets.proofs.Trips.{same-is}
 use Rattle.answers.specs.Answers.{numberOf, answerOf}
 use Rattle.answers.specs.Cases.{says, done, given, inBook}
 use Rattle.answers.specs.declared.Answer.{Answer}
@@ -59,18 +58,6 @@ on-sheet sheet l m = go (isIn (l .symbol) (symbolsIn sheet)) refl
     go : (t : Bool) → isIn (l .symbol) (symbolsIn sheet) ≡ t → isIn (l .symbol) (symbolsIn sheet) ≡ true
     go true t = t
     go false t = absurd (true≢false (sym (same-refl (l .symbol)) ∙ other-symbol (l .symbol) sheet l t m))
-
--- and a symbol that is listed is that of a listing
-pub of-sheet : (symbol : List ℕ) (sheet : List Listing) → isIn symbol (symbolsIn sheet) ≡ true
-    → (x : Listing) × List·Memᴰ x sheet × (symbol ≡ x .symbol)
-of-sheet symbol [] h = absurd (true≢false (sym h))
-of-sheet symbol (x ∷ sheet) h = go (same (x .symbol) symbol) refl h (λ q. of-sheet symbol sheet q)
-  where
-    go : (t : Bool) → same (x .symbol) symbol ≡ t → (t || isIn symbol (symbolsIn sheet)) ≡ true
-        → (isIn symbol (symbolsIn sheet) ≡ true → (y : Listing) × List·Memᴰ y sheet × (symbol ≡ y .symbol))
-        → (y : Listing) × List·Memᴰ y (x ∷ sheet) × (symbol ≡ y .symbol)
-    go true t h f = (x, List·Memᴰ·head refl, sym (same-is (x .symbol) symbol .0 t))
-    go false t h f = let q = f h in (q .0, List·Memᴰ·tail (q .1), q .2)
 
 -- the first row of a listed symbol is its own
 found-row : (es : List Taken) (sheet : List Listing) (l : Listing) → NoRepeat (symbolsIn sheet) → List·Memᴰ l sheet

@@ -66,8 +66,8 @@ fn condition(b: &[u8; RECORD], at: usize) -> bool
     rules::condition_ok(b[at], b[at + 1], b[at + 2], b[at + 3])
 }
 
-// The rules of the trade that stands from a place on, behind another test. Its price and its size are read by the caller,
-// who knows the place beforehand.
+// The rules of the trade that stands from a place on, behind another test. Its price and its size are read by the
+// caller, who knows the place beforehand.
 fn sale_ok(b: &[u8; RECORD], held: bool, at: usize, price: u32, size: u32) -> bool
     requires { ⌜ at + 22 ≤ 80 ⌝ }
     ensures { λ r. ⌜ r ≡ saleRules held (part (now (b .entry)) at 10) price size (part (now (b .entry)) (at + 18) 4) ⌝ }

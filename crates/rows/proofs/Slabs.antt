@@ -22,7 +22,7 @@ use Rattle.rows.specs.Rows.{listingFrom, summaryAt, reportedAt, rowFrom,
 use Rattle.rows.specs.Rows.{noRow, rowIn, inRow, withRow, withReport, withSummary}
 use Rattle.rows.specs.Changed.{listedRow, reporting, summarised, ListingFits}
 use Rattle.cells.proofs.Slabs.{Agree, Kept, number-here, number-past, part-agree, stored-found, stored-kept, stored-length, stored-past}
-use Rattle.cells.proofs.Slabs.{used, used-add, used-get, used-in, used-length, used-set}
+use Rattle.cells.proofs.Slabs.{used, used-add, used-in, used-length, used-set}
 
 -- ---- a row's cell
 
@@ -140,10 +140,6 @@ module _ (m : List ℕ) (n : ℕ) where
   pub used-rows-length : length (usedRows m n) ≡ min n (rowLimit (length m))
   unfolding usedRows
   used-rows-length = used-length rowFrom rowCell rowLimit m n
-
-  pub row-get : (k : ℕ) → k < min n (rowLimit (length m)) → getD (usedRows m n) k noRow ≡ rowAt m k
-  unfolding usedRows
-  row-get k h = used-get rowFrom rowCell rowLimit m n noRow k h
 
   pub row-in : (k : ℕ) → k < min n (rowLimit (length m)) → getD (usedRows m n) k noRow ≡ rowIn m k
   unfolding usedRows rowIn

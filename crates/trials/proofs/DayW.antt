@@ -16,6 +16,7 @@ unfolding playW
 w-played = (refl, refl, refl, refl, refl)
 
 -- the row that document 01 prints of the day
-pub w-shown : shown (playW .state) abcd ≡ record { answer = answerOf 0; row = priced 250000 252500 252500 252500 (Amount (pos 2500)) 170 2 600 }
+pub w-shown : shown (playW .state) abcd
+    ≡ record { answer = answerOf 0; row = priced 250000 252500 252500 252500 (Amount (pos 2500)) 170 2 600 }
 unfolding playW figuresFor
 w-shown = refl

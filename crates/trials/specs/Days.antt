@@ -210,7 +210,8 @@ leftBy day s (n ∷ ns) = leftBy day (deliveredIn s n (day n)) ns
 unfoldable pub saidBack : Case → List ℕ
 unfolding Run.tab Run.part Number.be Number.digits Up.up Text.text Conditions.levelAt Conditions.marksOf Conditions.conditionMarks
     Layouts.layoutS Layouts.layoutT Layouts.layoutC Layouts.layoutJ Values.roomOf Tables.speltBy Tables.obeysBy
-    Held.saleFrom Held.newFrom Held.recordFrom Held.readBy Reader.readIn Reader.readOf Search.first Lines.lineFrom Lines.lineBytes Lines.usedLines Lines.lineIn Lines.withLine Lines.withDead
+    Held.saleFrom Held.newFrom Held.recordFrom Held.readBy Reader.readIn Reader.readOf Search.first
+    Lines.lineFrom Lines.lineBytes Lines.usedLines Lines.lineIn Lines.withLine Lines.withDead
     Rows.listingFrom Rows.summaryAt Rows.reportedAt Rows.rowFrom Rows.newRow Rows.reportBytes Rows.summaryBytes Rows.usedRows
     Rows.rowIn Rows.inRow
     Walking.counts Figures.sold Walking.tally Walking.fold Walking.figuresOf Showing.shownOf

@@ -49,15 +49,10 @@ same-at-requires-2 c κs = search needs
 
 returns : tie.Need-returns
 returns c =
-    let a
-    = c .before .before .before .before .before .before .before .before .before .before .before .before .before .before .before .args in
+    let start = c .before .before .before .before .before .before .before .before .before .before .before .before .before .before .before in
+    let a = start .args in
     rw (c .same-at2 .ensures, c .before .before .before .before .before .before .before .same-at .ensures)
-    (match-is (a .r) (a .l) (asked-symbol (c .before .before .before .before .before .before .before .before .before .before .before
-    .before .before .before .before)) (asked-condition
-    (c .before .before .before .before .before .before .before .before .before .before .before .before .before .before .before))
-    (line-symbol (c .before .before .before .before .before .before .before .before .before .before .before .before .before .before
-    .before)) (line-condition (c .before .before .before .before .before .before .before .before .before .before .before .before
-    .before .before .before)))
+    (match-is (a .r) (a .l) (asked-symbol start) (asked-condition start) (line-symbol start) (line-condition start))
 
 pub is-match-spec : {M : Type 1} → statement M
 is-match-spec =

@@ -64,10 +64,11 @@ same-at-requires c κs = search needs
 
 returns : tie.Need-returns Inv-loop μ-loop
 returns c =
-    let a = c .before .before .before .before .before .before .before .before .args in
+    let start = c .before .before .before .before .before .before .before .before in
+    let a = start .args in
     let l = c .before .before .before .before .loop in
     sym (find-on (isOf (a .t3)) (listingIn (a .rows .now)) (l .i) _ (c .before .before .before .loop-test .taken)
-    (here (c .before .before .before .before .before .before .before .before) (l .i) ∙ sym (c .before .same-at .ensures)
+    (here start (l .i) ∙ sym (c .before .same-at .ensures)
     ∙ c .if1 .taken)) ∙ l .inv .2
 
 add-i : tie.Need-add-i Inv-loop μ-loop
@@ -78,12 +79,13 @@ loop-less c = search needs
 
 loop-again : tie.Need-loop-again Inv-loop μ-loop
 loop-again c =
-    let a = c .before .before .before .before .before .before .before .before .args in
+    let start = c .before .before .before .before .before .before .before .before in
+    let a = start .args in
     let l = c .before .before .before .before .loop in (
       omega arith,
       l .inv .1,
       sym (find-off (isOf (a .t3)) (listingIn (a .rows .now)) (l .i) _ (c .before .before .before .loop-test .taken)
-          (here (c .before .before .before .before .before .before .before .before) (l .i) ∙ sym (c .before .same-at .ensures)
+          (here start (l .i) ∙ sym (c .before .same-at .ensures)
           ∙ c .if1 .left)) ∙ l .inv .2,
     )
 

@@ -35,7 +35,8 @@ unfolding recordOf readBy recordFrom saleFrom newFrom holds packed slots part ta
 returns c =
     let size = c .before in
     let price = size .before .before in
-    simp (c .sale-ok .ensures, size .number42 .ensures, price .number4 .ensures, price .before .before .trade-ok .ensures) (sym (and-true _))
+    simp (c .sale-ok .ensures, size .number42 .ensures, price .number4 .ensures, price .before .before .trade-ok .ensures)
+    (sym (and-true _))
 
 pub kept-c-spec : {M : Type 1} → statement M
 kept-c-spec =
