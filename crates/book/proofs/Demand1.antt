@@ -8,11 +8,11 @@ use mathlib.Core.List.{List, [], _∷_, _++_, List·Memᴰ, List·Memᴰ·not-ni
 use mathlib.Core.Bool.{Bool, true, false, cond, not, _&&_, and-eq-true-iff, true≢false}
 use native.Mathlib.Omega.{arith}
 use borrow.Author.Tests.{eqb-true, ne-eqb}
-use lib.Dec.{eqb}
+use lib.Dec.{eqb, lit<}
 use lib.ListN.{length}
 use Rattle.answers.specs.Answers.{numberOf, answerOf}
 use Rattle.answers.specs.Cases.{Case, given, inBook}
-use Rattle.answers.proofs.Cases.{numbersOf, given-among, given-uses}
+use Rattle.answers.proofs.Cases.{Rising, numbersOf, given-among, given-uses}
 use Rattle.records.specs.declared.Record.{Record}
 use Rattle.message.specs.Reader.{readOf}
 use Rattle.rows.specs.declared.Listing.{Listing}
@@ -25,6 +25,12 @@ use Rattle.show.specs.Showing.{nothingShown}
 use Rattle.book.specs.State.{State, Arrival, wantedIn, sheetOf, basisOf, soundIn, UnsoundIn}
 use Rattle.book.specs.Calls.{listTable, listCases, listAnswer, listed, numberCases, messageCases, messageGiven, spent, after}
 use Rattle.book.specs.Calls.{delivered, rowTable, rowCases, rowAnswer, shown}
+
+-- ---- the numbers of a listing's cases rise, as those of a message's do (`message-rising`)
+
+pub listing-rising : (wanted : ℕ) (sheet : List Listing) (limit : ℕ) (l : Listing) → Rising (listTable wanted sheet limit l)
+unfolding listTable
+listing-rising wanted sheet limit l = (lit< tt, (lit< tt, (lit< tt, (lit< tt, tt))))
 
 -- ---- one of a list
 
