@@ -1,5 +1,5 @@
--- Of `list`, `deliver` and `row`, whatever state, listing, arrival and symbol is given: the answer is one of the call's list, a refusal
--- keeps everything but the number that it uses up, and every lent byte outside the cells that the call may store in stays.
+-- Of `list`, `deliver` and `row`, whatever state, listing, arrival and symbol is given: the answer is one of the call's list, and a
+-- refusal keeps everything but the number that it uses up. Which lent bytes a call may change: `Touches`.
 -- Assumes nothing.
 use Prim.Native.Nat.{ℕ, _+_, _≤_}
 use mathlib.Core.Path.{_≡_, refl, ap, sym, _∙_}
@@ -17,6 +17,8 @@ use Rattle.records.specs.declared.Record.{Record}
 use Rattle.message.specs.Reader.{readOf}
 use Rattle.rows.specs.declared.Listing.{Listing}
 use Rattle.rows.specs.Rows.{rowLimit}
+use Rattle.numbers.proofs.Laws.{up-is}
+use Rattle.counters.specs.declared.Counters.{Counters}
 use Rattle.counters.specs.Counting.{lastNumber}
 use Rattle.counters.proofs.Sound.{sound-gives, sound-exactly}
 use Rattle.table.specs.Table.{numberTable, contentTable}
@@ -87,6 +89,11 @@ module _ (s : State) where
       }
 
   -- what each call leaves when it refuses
+  -- the counters with another wanted number
+  abbrev pub withWanted : ℕ → Counters
+  withWanted n =
+      let c = s .counters in record { wanted = n; phase = c .phase; rows = c .rows; lines = c .lines; taken = c .taken }
+
   pub record RefusedKeeps : Type 0 where
     pub list : (l : Listing) → (listed s l .answer ≡ 0 → ⊥) → listed s l .state ≡ s
     pub deliver : (a : Arrival) → (delivered s a .answer ≡ 0 → ⊥)
@@ -94,6 +101,8 @@ module _ (s : State) where
     -- refused at the wanted number, in a sound book: the number is used up, all else stays
     pub used : (a : Arrival) → soundIn s ≡ true → a .number ≡ wantedIn s → a .number ≤ lastNumber
         → (delivered s a .answer ≡ 0 → ⊥) → delivered s a .state ≡ spent s
+    -- which in a sound book is: the wanted number up by one, all else equal
+    pub byOne : soundIn s ≡ true → spent s ≡ record { counters = withWanted (wantedIn s + 1); rows = s .rows; lines = s .lines }
     -- at any other number, or in an unsound book: refused, and nothing changes
     pub unused : (a : Arrival) → (soundIn s ≡ true → a .number ≡ wantedIn s → a .number ≤ lastNumber → ⊥)
         → (delivered s a .answer ≡ 0 → ⊥) × (delivered s a .state ≡ s)
@@ -168,6 +177,10 @@ module _ (s : State) where
               kept-room (λ t. t .lines) refl (readOf (a .message) .found) (messageGiven s a) z,
             );
         used = λ a h w f z. used-is a (wanted (a .number) h w f) z;
+        byOne =
+            λ h.
+            let g = sound-gives (s .counters) (length (s .rows)) (length (s .lines)) h in
+            rw (up-is (wantedIn s) (omega (arith, g .greatest)));
         unused =
             λ a h. (
               refused-unwanted a (λ w. h (w .sound) (w .wanted) (w .greatest)),

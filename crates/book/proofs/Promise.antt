@@ -1,7 +1,6 @@
 -- The arguments of each call by name, and that each public function's contract leaves one possible answer and one possible content for
--- each lent byte. `Learnt` is
--- that contract as the compiler hands it to a caller: of the arguments, of the result, and of the arguments again as
--- the call returns.
+-- each lent byte. `Learnt` is that contract as the compiler hands it to a caller: of the arguments, of the result, and of the arguments
+-- again as the call returns.
 -- Assumes nothing.
 use mathlib.Core.Path.{_≡_, refl, ap, sym, _∙_}
 use mathlib.Core.List.{List}

@@ -1,4 +1,5 @@
--- What a call is lent, and what it leaves: each is one record, so that a further room or a further word of the counters is one line here.
+-- What a call is lent, and what it leaves: each is one record. Contracts and theorems speak of the records, so that a further room or a
+-- further word of the counters changes none of them.
 -- Assumes nothing.
 use Prim.Native.Nat.{ℕ}
 use mathlib.Core.List.{List}

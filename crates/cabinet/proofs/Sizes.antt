@@ -2,6 +2,7 @@
 -- Assumes nothing.
 use Prim.Native.Nat.{ℕ, _/_, _≤_, min}
 use mathlib.Core.Path.{_≡_, refl}
+use mathlib.Core.List.{[], _∷_}
 use mathlib.Core.Bool.{Bool, true, false, cond}
 use lib.Dec.{eqb, lit≤}
 use lib.ListN.{length, List·getD-eq-default}
@@ -27,6 +28,7 @@ size-none which h = List·getD-eq-default sizes 0 h
 -- a room of so many bytes has so many rows or lines; no message is longer, and a C is as long; a record, the counters and a row
 -- are as long, and so is a message of each type
 pub record SizesAre : Type 0 where
+  pub printed : sizes ≡ 30 ∷ 256 ∷ 40 ∷ 65536 ∷ 67 ∷ 80 ∷ 5 ∷ 15 ∷ 6 ∷ 45 ∷ 45 ∷ 67 ∷ 34 ∷ []
   pub rows : (room : ℕ) → rowLimit room ≡ min (sizeOf 1) (room / sizeOf 0)
   pub lines : (room : ℕ) → lineLimit room ≡ min (sizeOf 3) (room / sizeOf 2)
   pub longest : (letter : ℕ) → lengthBy letter ≤ sizeOf 4
@@ -48,6 +50,7 @@ pub sizes-are : SizesAre
 unfolding sizeOf counterWords rowWords layoutS layoutT layoutC layoutJ packed
 sizes-are =
     record {
+      printed = refl;
       rows = λ room. refl;
       lines = λ room. refl;
       longest =

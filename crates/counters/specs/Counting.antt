@@ -20,7 +20,7 @@ lastNumber = 4294967295
 abbrev pub freshCounters : Counters
 freshCounters = record { wanted = 1; phase = 0; rows = 0; lines = 0; taken = 0 }
 
--- ---- each move; `up` is one more, which in a sound book always fits
+-- ---- each move. `up` is one more, and stays at the greatest number of 64 bits; in a sound book nothing comes near that (`up-is`)
 
 -- used up: wanted number up by one, all else equal
 abbrev pub usedUp : Counters → Counters

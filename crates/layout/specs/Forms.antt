@@ -1,4 +1,5 @@
--- How a field is spelt in bytes, with its rule. A further form is one more constructor, and a clause in each definition here.
+-- How a field is spelt in bytes, with its rule. A further form is one more constructor, with a clause in each
+-- definition here, in `isByte` (`Tables`) and in `alike` and `clear` (`Carrying`).
 -- Assumes nothing.
 use Prim.Native.Nat.{ℕ, _^_}
 use mathlib.Core.List.{List, [], _∷_}

@@ -41,7 +41,7 @@ lawfulIn (some l) r = lawful l r
 
 -- ---- by the letter
 
--- and by its letter
+-- the length of the messages that bear a letter
 unfoldable pub lengthBy : ℕ → ℕ
 lengthBy k = sizeIn (layoutBy k)
 

@@ -44,6 +44,6 @@ size = within 1 4294967295
 abbrev pub consolidated : Range
 consolidated = any
 
--- four codes, one from each row of the sheet
+-- four codes, one from each row of the sale condition sheet
 abbrev pub condition : List ℕ → Bool
 condition c = conditionMarks c .«on_sheet»
