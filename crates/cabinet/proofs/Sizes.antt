@@ -8,9 +8,9 @@ use lib.Dec.{eqb, lit≤}
 use lib.ListN.{length, List·getD-eq-default}
 use Rattle.records.specs.declared.Record.{Record}
 use Rattle.records.specs.Fits.{RecordFits}
-use Rattle.message.specs.Layouts.{layoutS, layoutT, layoutC, layoutJ}
-use Rattle.message.specs.Judged.{lengthBy}
-use Rattle.message.proofs.Lengths.{length-by}
+use Rattle.packing.specs.Layouts.{layoutS, layoutT, layoutC, layoutJ}
+use Rattle.packing.specs.Packing.{lengthBy}
+use Rattle.packing.proofs.Lengths.{length-by}
 use Rattle.counters.specs.declared.Counters.{Counters}
 use Rattle.show.specs.declared.RowShown.{RowShown}
 use Rattle.words.specs.Words.{counterWords, rowWords}

@@ -6,7 +6,7 @@ use lib.ListN.{getD}
 use Rattle.lines.specs.Cell.{lineCell, lineCap}
 use Rattle.rows.specs.Cell.{rowCell, rowCap}
 use Rattle.kinds.specs.declared.Kind.the-variants.{Event, Trade, Cancel, Correction, Summary}
-use Rattle.message.specs.Judged.{lengthOf}
+use Rattle.packing.specs.Packing.{lengthOf}
 use Rattle.records.specs.Packed.{packed}
 use Rattle.words.specs.Words.{counterCount, rowCount}
 

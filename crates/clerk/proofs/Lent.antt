@@ -15,8 +15,8 @@ use Rattle.records.specs.Zeros.{noSale, noRecord}
 use Rattle.kinds.specs.Kinds.{kindOf}
 use Rattle.layout.specs.Values.{roomOf}
 use Rattle.records.specs.Held.{saleFrom, newFrom, recordFrom, readBy}
-use Rattle.message.specs.Layouts.{letterPlace, layoutS, layoutT, layoutC, layoutJ, layoutOf}
-use Rattle.message.specs.Judged.{filledIn, fieldsOf}
+use Rattle.packing.specs.Layouts.{letterPlace, layoutS, layoutT, layoutC, layoutJ, layoutOf}
+use Rattle.packing.specs.Packing.{filledIn, fieldsOf}
 use Rattle.message.specs.Reader.{readOf}
 use Rattle.message.proofs.Said.{Said, unshaped, unkept, obeyed, said}
 use Rattle.kinds.specs.declared.Kind.{Kind}

@@ -27,8 +27,9 @@ use Rattle.records.specs.Zeros.{noRecord}
 use Rattle.records.specs.Held.{holds, readBy, writeBy, lawful}
 use Rattle.records.proofs.Held.{fits-typed, read-letter, written-read, written-obeys}
 use Rattle.message.specs.declared.Reading.{Reading}
-use Rattle.message.specs.Layouts.{letterPlace, layoutBy}
-use Rattle.message.specs.Judged.{lengthBy, fieldsOf, bytesOf, lawfulOf}
+use Rattle.packing.specs.Layouts.{letterPlace, layoutBy}
+use Rattle.packing.specs.Packing.{lengthBy, fieldsOf, bytesOf}
+use Rattle.judge.specs.Judged.{lawfulOf}
 use Rattle.message.specs.Reader.{refusedOf, acceptedOf, shapedIn, obeysIn, readIn, readOf}
 use Rattle.message.specs.Writer.{writeAnswer, writeOut}
 use Rattle.message.specs.Obeying.{Shaped, Obeys, Lawful}

@@ -18,11 +18,12 @@ use Rattle.layout.proofs.Tables as Laws
 use Rattle.records.specs.declared.Record.{Record}
 use Rattle.records.specs.Held.{holds, readBy, writeBy, lawful}
 use Rattle.records.proofs.Held.{read-letter, read-stands, read-lacks, read-written, obeys-lawful}
-use Rattle.message.specs.Layouts.{letterPlace, layoutBy}
-use Rattle.message.specs.Judged.{sizeIn, filledIn, bytesIn, lawfulIn, lengthBy, fieldsOf, bytesOf, lawfulOf}
+use Rattle.packing.specs.Layouts.{letterPlace, layoutBy}
+use Rattle.packing.specs.Packing.{sizeIn, filledIn, bytesIn, lengthBy, fieldsOf, bytesOf}
+use Rattle.judge.specs.Judged.{lawfulIn, lawfulOf}
 use Rattle.message.specs.Reader.{shapedIn, obeysIn}
 use Rattle.message.specs.Obeying.{Shaped, Obeys, Lawful}
-use Rattle.message.proofs.Good.{Good, All, good}
+use Rattle.packing.proofs.Good.{Good, All, good}
 
 -- ---- a layout that a letter names is one of the five
 

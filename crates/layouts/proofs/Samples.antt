@@ -14,7 +14,7 @@ use Rattle.conditions.specs.Conditions.{levelAt, conditionMarks}
 use Rattle.kinds.specs.Kinds.{kindOf}
 use Rattle.answers.specs.Answers.{numberOf}
 use Rattle.layout.specs.Tables.{speltBy, obeysBy, Each}
-use Rattle.message.specs.Layouts.{layoutS, layoutT, layoutC, layoutJ}
+use Rattle.packing.specs.Layouts.{layoutS, layoutT, layoutC, layoutJ}
 use Rattle.message.specs.Reader.{readIn, readOf}
 use Rattle.message.specs.Obeying.{Obeys}
 use Rattle.layouts.proofs.Demand2.{read-exactly}

@@ -16,10 +16,10 @@ use Rattle.records.specs.Held.{readBy}
 use Rattle.records.proofs.Fitting.{no-record-fits}
 use Rattle.records.proofs.Held.{read-typed, typed-fits}
 use Rattle.message.specs.declared.Reading.{Reading}
-use Rattle.message.specs.Layouts.{letterPlace, layoutBy}
-use Rattle.message.specs.Judged.{filledIn, fieldsOf}
+use Rattle.packing.specs.Layouts.{letterPlace, layoutBy}
+use Rattle.packing.specs.Packing.{filledIn, fieldsOf}
 use Rattle.message.specs.Reader.{readOf}
-use Rattle.message.proofs.Good.{Good, All, good}
+use Rattle.packing.proofs.Good.{Good, All, good}
 use Rattle.message.proofs.Said.{Said, unshaped, unkept, obeyed, said}
 
 filled-fits : (o : Option Layout) → All Good o → (m : List ℕ) → Bytes m → RecordFits (filledIn o m)

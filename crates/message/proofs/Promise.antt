@@ -3,28 +3,16 @@
 -- the call returns.
 -- Assumes nothing.
 use mathlib.Core.Path.{_≡_, refl, sym, _∙_}
-use mathlib.Core.Bool.{Bool}
-use Prim.Native.Nat.{ℕ}
 use contract.Lifetimes.{Lfts}
 use borrow.Fn.World.{ArgsD}
 use borrow.Fn.Kinds.{endedOf}
 use denote.Triple.Clauses.{AtExit}
 use denote.Ref.{now}
 use Rattle.answers.specs.declared.Answer.{Answer}
-use Rattle.kinds.specs.declared.Kind.{Kind}
 use Rattle.records.specs.Packed.{recordBytes, recordOf}
 use Rattle.message.specs.declared.Reading.{Reading}
-use Rattle.message.specs.Layouts.{layoutOf}
-use Rattle.message.specs.Judged.{keptIn, lawfulIn}
 use Rattle.message.specs.Reader.{readOf}
 use Rattle.message.specs.Writer.{writeAnswer, writeOut}
-use Rattle.message.proofs.judge.kept as kept
-use Rattle.message.proofs.judge.kept.Reads as kept-reads
-use Rattle.message.proofs.judge.kept.Kinds as kept-kinds
-use Rattle.message.proofs.judge.lawful as lawful
-use Rattle.message.proofs.judge.lawful.Reads as lawful-reads
-use Rattle.message.proofs.judge.lawful.Kinds as lawful-kinds
-use Rattle.message.proofs.length_of.Reads as length-of-reads
 use Rattle.message.proofs.read as read
 use Rattle.message.proofs.read.Reads as read-reads
 use Rattle.message.proofs.read.Kinds as read-kinds
@@ -37,10 +25,6 @@ use Rattle.message.proofs.read_packed.Kinds as read-packed-kinds
 use Rattle.message.proofs.write_packed as write-packed
 use Rattle.message.proofs.write_packed.Reads as write-packed-reads
 use Rattle.message.proofs.write_packed.Kinds as write-packed-kinds
-
-pub length-of-one : (k k₁ k₂ : Kind) (n n′ : ℕ) → length-of-reads.Learnt tt (k, tt) n (k₁, tt)
-    → length-of-reads.Learnt tt (k, tt) n′ (k₂, tt) → n ≡ n′
-length-of-one k k₁ k₂ n n′ h h′ = h ∙ sym h′
 
 module _ (κs : Lfts 1) (a : ArgsD read.signature κs) where
   -- what `read` tells of a message is what `readOf` says of its bytes, and nothing else
@@ -79,23 +63,3 @@ module _ (κs : Lfts 2) (a : ArgsD write-packed.signature κs) where
       → write-packed-reads.Learnt κs a r s
       ≡ ((r ≡ writeAnswer (recordOf (now (a .0))) (now (a .1 .0))) × (now (s .1 .0) ≡ writeOut (recordOf (now (a .0))) (now (a .1 .0))))
   write-packed-says r s = refl
-
-module _ (κs : Lfts 1) (a : ArgsD kept.signature κs) where
-  pub kept-one : (r r′ : Bool) (s s′ : AtExit (endedOf 1 kept-kinds.ps kept-kinds.r) κs) → kept-reads.Learnt κs a r s
-      → kept-reads.Learnt κs a r′ s′ → r ≡ r′
-  kept-one r r′ s s′ h h′ = h ∙ sym h′
-
-  -- what a caller is told, and nothing else
-  pub kept-says : (r : Bool) (s : AtExit (endedOf 1 kept-kinds.ps kept-kinds.r) κs)
-      → kept-reads.Learnt κs a r s ≡ (r ≡ keptIn (layoutOf (a .1 .0)) (recordOf (now (a .0))))
-  kept-says r s = refl
-
-module _ (κs : Lfts 1) (a : ArgsD lawful.signature κs) where
-  pub lawful-one : (r r′ : Bool) (s s′ : AtExit (endedOf 1 lawful-kinds.ps lawful-kinds.r) κs) → lawful-reads.Learnt κs a r s
-      → lawful-reads.Learnt κs a r′ s′ → r ≡ r′
-  lawful-one r r′ s s′ h h′ = h ∙ sym h′
-
-  -- what a caller is told, and nothing else
-  pub lawful-says : (r : Bool) (s : AtExit (endedOf 1 lawful-kinds.ps lawful-kinds.r) κs)
-      → lawful-reads.Learnt κs a r s ≡ (r ≡ lawfulIn (layoutOf (a .1 .0)) (recordOf (now (a .0))))
-  lawful-says r s = refl

@@ -20,10 +20,11 @@ use Rattle.records.specs.Packed.{recordOf, recordBytes}
 use Rattle.records.proofs.Stores.{no-bytes}
 use Rattle.records.proofs.Held.{read-typed, obeys-lawful, fields-kept}
 use Rattle.records.proofs.Again.{typed-again}
-use Rattle.message.specs.Layouts.{letterPlace, layoutOf, layoutBy}
-use Rattle.message.specs.Judged.{sizeIn, filledIn, keptIn, fieldsOf}
+use Rattle.packing.specs.Layouts.{letterPlace, layoutOf, layoutBy}
+use Rattle.packing.specs.Packing.{sizeIn, filledIn, fieldsOf}
+use Rattle.judge.specs.Judged.{keptIn}
 use Rattle.message.specs.Reader.{refusedOf, acceptedOf, shapedIn, obeysIn, readIn, readOf}
-use Rattle.message.proofs.Good.{Good, All, good}
+use Rattle.packing.proofs.Good.{Good, All, good}
 
 -- ---- by any layout
 

@@ -19,10 +19,11 @@ use Rattle.layout.specs.Tables.{Layout}
 use Rattle.records.specs.declared.Record.{Record}
 use Rattle.records.specs.Held.{holds}
 use Rattle.records.proofs.Held.{written-long}
-use Rattle.message.specs.Layouts.{layoutOf, layoutBy}
-use Rattle.message.specs.Judged.{sizeIn, bytesIn, lawfulIn, lengthBy, bytesOf, lawfulOf}
+use Rattle.packing.specs.Layouts.{layoutOf, layoutBy}
+use Rattle.packing.specs.Packing.{sizeIn, bytesIn, lengthBy, bytesOf}
+use Rattle.judge.specs.Judged.{lawfulIn, lawfulOf}
 use Rattle.message.specs.Writer.{writeAnswer, writeOut}
-use Rattle.message.proofs.Good.{Good, All, good}
+use Rattle.packing.proofs.Good.{Good, All, good}
 
 long-in : (o : Option Layout) → All Good o → (r : Record) → Sized (holds r) → length (bytesIn o r) ≡ sizeIn o
 long-in none h r y = refl

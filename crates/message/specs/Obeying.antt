@@ -10,7 +10,7 @@ use Rattle.layout.specs.Tables as Tables
 use Rattle.layout.specs.Tables.{Layout}
 use Rattle.records.specs.declared.Record.{Record}
 use Rattle.records.specs.Held.{holds}
-use Rattle.message.specs.Layouts.{letterPlace, layoutBy}
+use Rattle.packing.specs.Layouts.{letterPlace, layoutBy}
 
 -- the byte at the letter's place names a type, and the length is that type's
 pub record Shaped (m : List ℕ) : Type 0 where

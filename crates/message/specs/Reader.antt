@@ -13,8 +13,8 @@ use Rattle.layout.specs.Tables.{Layout, obeysBy}
 use Rattle.records.specs.declared.Record.{Record}
 use Rattle.records.specs.Zeros.{noRecord}
 use Rattle.message.specs.declared.Reading.{Reading}
-use Rattle.message.specs.Layouts.{letterPlace, layoutBy}
-use Rattle.message.specs.Judged.{filledIn}
+use Rattle.packing.specs.Layouts.{letterPlace, layoutBy}
+use Rattle.packing.specs.Packing.{filledIn}
 
 -- a refusal by its number hands back a record of zeros
 abbrev pub refusedOf : ℕ → Reading

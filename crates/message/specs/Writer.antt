@@ -8,7 +8,8 @@ use lib.ListN.{length, drop}
 use Rattle.answers.specs.Answers.{answerOf}
 use Rattle.answers.specs.declared.Answer.{Answer}
 use Rattle.records.specs.declared.Record.{Record}
-use Rattle.message.specs.Judged.{lengthBy, bytesOf, lawfulOf}
+use Rattle.packing.specs.Packing.{lengthBy, bytesOf}
+use Rattle.judge.specs.Judged.{lawfulOf}
 
 -- what writing a record into lent bytes answers: a broken rule goes before a short space
 unfoldable pub writeAnswer : Record → List ℕ → Answer

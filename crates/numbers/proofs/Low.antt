@@ -53,3 +53,11 @@ number-same m symbol at b c l = go (same (part m at 8) symbol) refl
     go : (x : Bool) → same (part m at 8) symbol ≡ x → eqb (low (part m at 8)) (low (part symbol 0 8)) ≡ same (part m at 8) symbol
     go true e = eq-eqb _ _ (ap low (same-is (part m at 8) symbol .0 e ∙ sym w)) ∙ sym e
     go false e = ne-eqb _ _ (λ q. true≢false (sym (same-is (part m at 8) symbol .1 (there q)) ∙ e)) ∙ sym e
+
+-- a symbol that a loop knows by its number
+abbrev pub Named : ℕ → List ℕ → Type 0
+Named name symbol = (length symbol ≡ 8) × Bytes symbol × (name ≡ low (part symbol 0 8))
+
+pub named-same : (m symbol : List ℕ) (at name : ℕ) → Bytes m → Named name symbol
+    → eqb (low (part m at 8)) name ≡ same (part m at 8) symbol
+named-same m symbol at name b h = rw (h .2) (number-same m symbol at b (h .1) (h .0))

@@ -5,6 +5,8 @@ use numbers::lesser;
 ghost use mathlib.Core.Path.{_≡_};
 ghost use Prim.Native.Nat.{_+_, _*_, _≤_};
 ghost use lib.ListN.{length};
+ghost use Rattle.octets.specs.Run.{part};
+ghost use Rattle.numbers.specs.Low.{low};
 ghost use Rattle.rows.specs.Cell.{rowCell};
 ghost use Rattle.rows.specs.Rows.{listingFrom, rowFrom, noRow, summaryAt, reportedAt};
 ghost use Rattle.rows.specs.Rows.{rowLimit, usedSheet, listingOf, rowIn};
@@ -60,14 +62,23 @@ pub fn limit(room: usize) -> usize
     lesser(CAP, room / CELL)
 }
 
-// Which used row is the first of the symbol.
+// The symbol of the row whose cell starts at an offset, as the number of its eight bytes.
+fn name_at(rows: &[u8], at: usize) -> u64
+    requires { ⌜ at + rowCell ≤ length (now rows) ⌝ }
+    ensures { λ r. ⌜ r ≡ low (part (now (rows .entry)) at 8) ⌝ }
+{
+    numbers::low8(&rows[at..at + 8], 0)
+}
+
+// Which used row is the first of the symbol. The eight bytes of a symbol are compared as one number.
 pub fn find(rows: &[u8], used: usize, symbol: [u8; 8]) -> Found
     ensures { λ r. ⌜ r ≡ listingOf symbol (usedSheet (now (rows .entry)) used) ⌝ }
 {
     let n = lesser(used, limit(rows.len()));
+    let name = numbers::low8(&symbol, 0);
     let mut i: usize = 0;
     while i < n {
-        if octets::run::same_at(rows, i * CELL, &symbol) {
+        if name_at(rows, i * CELL) == name {
             return Found::At(i);
         }
         i += 1;

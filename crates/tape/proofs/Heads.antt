@@ -14,8 +14,8 @@ use lib.Seq.{drop-cons}
 use Rattle.kinds.specs.declared.Kind.{Kind}
 use Rattle.kinds.specs.declared.Kind.the-variants.{Event, Trade, Cancel, Correction, Summary, Other}
 use Rattle.kinds.specs.Kinds.{kindOf}
-use Rattle.message.specs.Layouts.{layoutS, layoutT, layoutC, layoutJ}
-use Rattle.message.specs.Judged.{lengthOf}
+use Rattle.packing.specs.Layouts.{layoutS, layoutT, layoutC, layoutJ}
+use Rattle.packing.specs.Packing.{lengthOf}
 use Rattle.tape.specs.Entries.{listingLetter, numberBytes, messageLength, bodyLength, headOf}
 use Rattle.tape.specs.declared.entries.Head.the-variants.{Whole, Stops}
 use Rattle.tape.specs.declared.Stop.{Stop}

@@ -5,8 +5,8 @@ use mathlib.Core.Bool.{Bool, true, false, cond, not, _||_}
 use mathlib.Core.List.{[], _∷_, map}
 use Prim.Native.Nat.{ℕ, suc, _+_}
 use lib.Dec.{eqb}
-use Rattle.message.specs.Layouts.{layoutS, layoutT, layoutC, layoutJ}
-use Rattle.message.specs.Judged.{lengthOf, lengthBy}
+use Rattle.packing.specs.Layouts.{layoutS, layoutT, layoutC, layoutJ}
+use Rattle.packing.specs.Packing.{lengthOf, lengthBy}
 use Rattle.kinds.specs.declared.Kind.{Kind}
 use Rattle.kinds.specs.declared.Kind.the-variants.{Event, Trade, Cancel, Correction, Summary, Other}
 use Rattle.kinds.specs.Kinds.{kindOf}

@@ -11,7 +11,7 @@ use Rattle.numbers.specs.Number.{be, digits}
 use Rattle.kinds.specs.declared.Kind.{Kind}
 use Rattle.kinds.specs.declared.Kind.the-variants.{Event, Trade, Cancel, Correction, Summary}
 use Rattle.kinds.specs.Kinds.{letterOf, kindOf}
-use Rattle.message.specs.Judged.{lengthOf}
+use Rattle.packing.specs.Packing.{lengthOf}
 use Rattle.rows.specs.declared.Listing.{Listing}
 use Rattle.book.specs.State.{Arrival, arrives}
 use Rattle.tape.specs.declared.Stop.{Stop}

@@ -2,10 +2,10 @@
 use crate::Stop;
 use counters::Counters;
 use kinds::kind_of;
-use message::length_of;
 use numbers::number4;
 use octets::run::byte;
 use octets::run::fill;
+use packing::length_of;
 use rows::Listing;
 ghost use mathlib.Core.Path.{_≡_};
 ghost use Prim.Native.Nat.{_+_, _≤_};

@@ -29,7 +29,7 @@ use Rattle.conditions.specs.Conditions as Conditions
 use Rattle.layout.specs.Values as Values
 use Rattle.layout.specs.Tables as Tables
 use Rattle.records.specs.Held as Held
-use Rattle.message.specs.Layouts as Layouts
+use Rattle.packing.specs.Layouts as Layouts
 use Rattle.message.specs.Reader as Reader
 use Rattle.cells.specs.Search as Search
 use Rattle.lines.specs.Lines as Lines

@@ -16,15 +16,15 @@ use Rattle.lines.specs.Lines.{lineFrom}
 use Rattle.lines.specs.declared.Line.{Line}
 use Rattle.figures.specs.declared.Figures.{Figures}
 use Rattle.numbers.specs.Low.{low}
-use Rattle.numbers.proofs.Low.{number-same}
+use Rattle.numbers.proofs.Low.{Named, named-same}
 use Rattle.figures.specs.Figures.{sold}
 use Rattle.walk.specs.Walking.{counts, dealt, tally, fold}
 
 -- a line counts if it is live and its symbol's number is that of the symbol
-pub counts-number : (m symbol : List ℕ) (at name : ℕ) → Bytes m → Bytes symbol → length symbol ≡ 8 → name ≡ low (part symbol 0 8)
+pub counts-number : (m symbol : List ℕ) (at name : ℕ) → Bytes m → Named name symbol
     → (eqb (getD m (at + atLive) 0) 1 && eqb (low (part m (at + atSymbol) 8)) name) ≡ counts symbol (lineFrom m at)
 unfolding counts lineFrom
-counts-number m symbol at name b c l e = rw (e, number-same m symbol (at + atSymbol) b c l)
+counts-number m symbol at name b h = rw (named-same m symbol (at + atSymbol) name b h)
 
 module _ (symbol : List ℕ) (t : Figures) (l : Line) where
   pub tally-counted : counts symbol l ≡ true → tally symbol t l ≡ dealt t l

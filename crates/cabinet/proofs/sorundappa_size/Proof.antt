@@ -3,7 +3,7 @@
 use Prim.Native.Nat.{ℕ, _+_, _≤_}
 use mathlib.Core.Path.{_≡_, sym}
 use native.Mathlib.Omega.{arith}
-use Rattle.message.specs.Layouts.{layoutS, layoutT, layoutC, layoutJ}
+use Rattle.packing.specs.Layouts.{layoutS, layoutT, layoutC, layoutJ}
 use Rattle.records.specs.Packed.{packed}
 use Rattle.cabinet.specs.Sizes.{sizeOf}
 use Rattle.cabinet.proofs.Sizes.{size-none}

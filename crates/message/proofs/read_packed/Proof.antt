@@ -7,7 +7,7 @@ use lib.ListN.{getD}
 use Rattle.octets.specs.Run.{Bytes}
 use Rattle.kinds.specs.declared.Kind.{Kind}
 use Rattle.kinds.specs.Kinds.{kindOf}
-use Rattle.message.specs.Layouts.{letterPlace}
+use Rattle.packing.specs.Layouts.{letterPlace}
 use Rattle.message.proofs.Said.{told-unshaped, told-obeyed, told-unkept}
 use borrow.Author.Needs.{needs}
 use Rattle.message.proofs.read_packed.Statement.{statement}
@@ -22,12 +22,12 @@ record Found : Type 0 where
 
 abbrev found : tie.After-kind-of → Found
 found c =
-    let s = c .before .before .before .before in
+    let s = c .before .before .before in
     record {
       message = s .args .message .now;
       kind = c .kind-of .result;
       typed = c .kind-of .ensures ∙ ap kindOf (c .before .byte .ensures);
-      bytes = λ i. c .before .before .before .shared-slice-known .given i .fits;
+      bytes = λ i. c .before .before .shared-slice-known .given i .fits;
     }
 
 byte-requires : tie.Need-byte-requires
@@ -41,9 +41,10 @@ length-of-requires c κs = search needs
 
 returns : tie.Need-returns
 returns c =
-    let f = found (c .before .before) in
-    let long = c .before .length-of .ensures in
-    told-unshaped (f .kind) (f .message) (f .typed) (rw (← long) (c .if1 .taken))
+    let test = c .before in
+    let f = found (test .before .before) in
+    let long = test .before .length-of .ensures in
+    told-unshaped (f .kind) (f .message) (f .typed) (rw (← long) (test .if1 .taken))
 
 unpack-requires : tie.Need-unpack-requires
 unpack-requires c κs = search needs

@@ -1,11 +1,16 @@
 -- `rows::find` meets its contract.
 -- Assumes nothing.
-use mathlib.Core.Path.{_≡_, sym, _∙_}
+use mathlib.Core.Path.{_≡_, ap, sym, _∙_}
+use lib.Dec.{eqb}
 use Prim.Native.Nat.{ℕ, _-_, _*_, _≤_}
 use native.Mathlib.Nat.{sub-zero}
 use native.Mathlib.Omega.{arith}
-use lib.ListN.{length}
-use Rattle.octets.specs.Run.{tab, part, same}
+use lib.ListN.{length, getD}
+use mir.Syntax.{w8}
+use mir.Val.{Fits}
+use Rattle.octets.specs.Run.{tab, part, Bytes}
+use Rattle.numbers.specs.Low.{low}
+use Rattle.numbers.proofs.Low.{Named, named-same}
 use Rattle.cells.proofs.Laws.{find-on, find-off, find-end}
 use Rattle.cells.specs.Search.{first}
 use mathlib.Core.List.{List}
@@ -13,6 +18,7 @@ use Rattle.rows.specs.Cell.{rowCell}
 use Rattle.rows.specs.declared.Listing.{Listing}
 use Rattle.rows.specs.Rows.{listingFrom, rowFrom, rowAt, rowLimit, usedRows, usedSheet, isOf, listingOf}
 use Rattle.rows.proofs.Laws.{tab-map}
+use borrow.Author.Tests.{eq-eqb, ne-eqb}
 use borrow.Author.Needs.{needs}
 use Rattle.rows.proofs.find.Statement.{statement}
 use Rattle.rows.proofs.find.Tie as tie
@@ -22,22 +28,45 @@ abbrev listingIn : List ℕ → ℕ → Listing
 listingIn m i = rowAt m i .listing
 
 abbrev Inv-loop : tie.InvT-loop
-Inv-loop rows used symbol n i₀ i =
-    (i ≤ n) × (n ≤ rowLimit (length rows)) × (first (isOf symbol) (tab (listingIn rows) i (n - i)) i ≡ listingOf symbol
-    (usedSheet rows used))
+Inv-loop rows used n name i₀ i =
+    (i ≤ n) × (n ≤ rowLimit (length rows)) ×
+    ((symbol : List ℕ) → Named name symbol
+    → first (isOf symbol) (tab (listingIn rows) i (n - i)) i ≡ listingOf symbol (usedSheet rows used))
 
 abbrev μ-loop : tie.MeasureT-loop
-μ-loop rows used symbol n i₀ i = n - i
+μ-loop rows used n name i₀ i = n - i
 
 symbol-long : (s : tie.Start Inv-loop μ-loop) → length (s .args .t3) ≡ 8
 symbol-long s = search needs
 
+symbol-byte : (s : tie.Start Inv-loop μ-loop) (i : ℕ) → Fits w8 (getD (s .args .t3) i 0)
+symbol-byte s i = search needs
+
+-- what the loop works with: the room, the symbol, and its number
+record Known : Type 0 where
+  pub rows : List ℕ
+  pub symbol : List ℕ
+  pub name : ℕ
+  pub bytes : Bytes rows
+  pub named : Named name symbol
+
+abbrev known : tie.After-low8 Inv-loop μ-loop → Known
+known c =
+    let g = c .before .before .before .before in
+    let s = g .before in
+    record {
+      rows = s .args .rows .now;
+      symbol = s .args .t3;
+      name = c .low8 .result;
+      bytes = λ i. g .shared-slice-known .given i .fits;
+      named = (symbol-long s, λ i. symbol-byte s i .fits, c .low8 .ensures);
+    }
+
 -- the bytes compared are those of the row
-here : (s : tie.Start Inv-loop μ-loop) (i : ℕ)
-    → isOf (s .args .t3) (listingIn (s .args .rows .now) i)
-    ≡ same (part (s .args .rows .now) (i * rowCell) (length (s .args .t3))) (s .args .t3)
+here : (m symbol : List ℕ) (name i : ℕ) → Bytes m → Named name symbol
+    → isOf symbol (listingIn m i) ≡ eqb (low (part m (i * rowCell) 8)) name
 unfolding rowFrom listingFrom
-here s i = rw (symbol-long s)
+here m symbol name i b h = sym (named-same m symbol (i * rowCell) name b h)
 
 limit-requires : tie.Need-limit-requires Inv-loop μ-loop
 limit-requires c κs = search needs
@@ -45,55 +74,58 @@ limit-requires c κs = search needs
 lesser-requires : tie.Need-lesser-requires Inv-loop μ-loop
 lesser-requires c κs = search needs
 
+slice-aggregate-low8 : tie.Need-slice-aggregate-low8 Inv-loop μ-loop
+slice-aggregate-low8 c = search needs
+
+low8-requires : tie.Need-low8-requires Inv-loop μ-loop
+low8-requires c κs = search needs
+
 loop-holds : tie.Need-loop-holds Inv-loop μ-loop
 unfolding usedRows
-loop-holds c = (
-  omega arith,
-  omega (arith, c .lesser .ensures, c .before .limit .ensures),
-  rw (tab-map, sub-zero, c .lesser .ensures, c .before .limit .ensures),
-)
+loop-holds c =
+    let e = c .before .before .lesser .ensures in
+    let f = c .before .before .before .limit .ensures in
+    (omega arith, omega (arith, e, f), λ s h. rw (tab-map, sub-zero, e, f))
 
-mul-same-at : tie.Need-mul-same-at Inv-loop μ-loop
-mul-same-at c = search needs
+mul-name-at : tie.Need-mul-name-at Inv-loop μ-loop
+mul-name-at c = omega arith
 
-slice-aggregate-same-at : tie.Need-slice-aggregate-same-at Inv-loop μ-loop
-slice-aggregate-same-at c = search needs
-
-same-at-requires : tie.Need-same-at-requires Inv-loop μ-loop
-same-at-requires c κs = search needs
+name-at-requires : tie.Need-name-at-requires Inv-loop μ-loop
+name-at-requires c κs = omega arith
 
 returns : tie.Need-returns Inv-loop μ-loop
 returns c =
-    let start = c .before .before .before .before .before .before .before .before in
-    let a = start .args in
-    let l = c .before .before .before .before .loop in
-    sym (find-on (isOf (a .t3)) (listingIn (a .rows .now)) (l .i) _ (c .before .before .before .loop-test .taken)
-    (here start (l .i) ∙ sym (c .before .same-at .ensures)
-    ∙ c .if1 .taken)) ∙ l .inv .2
+    let test = c .before .before in
+    let l = test .before .loop in
+    let k = known (test .before .before) in
+    sym (find-on (isOf (k .symbol)) (listingIn (k .rows)) (l .i) _ (test .loop-test .taken)
+    (here (k .rows) (k .symbol) (k .name) (l .i) (k .bytes) (k .named) ∙ ap (λ (x : ℕ). eqb x (k .name)) (sym (c .before .name-at .ensures))
+    ∙ eq-eqb _ _ (c .if1 .taken))) ∙ l .inv .2 (k .symbol) (k .named)
 
 add-i : tie.Need-add-i Inv-loop μ-loop
-add-i c = search needs
+add-i c = omega arith
 
 loop-less : tie.Need-loop-less Inv-loop μ-loop
-loop-less c = search needs
+loop-less c = omega arith
 
 loop-again : tie.Need-loop-again Inv-loop μ-loop
 loop-again c =
-    let start = c .before .before .before .before .before .before .before .before in
-    let a = start .args in
-    let l = c .before .before .before .before .loop in (
+    let test = c .before .before in
+    let l = test .before .loop in
+    let k = known (test .before .before) in (
       omega arith,
       l .inv .1,
-      sym (find-off (isOf (a .t3)) (listingIn (a .rows .now)) (l .i) _ (c .before .before .before .loop-test .taken)
-          (here start (l .i) ∙ sym (c .before .same-at .ensures)
-          ∙ c .if1 .left)) ∙ l .inv .2,
+      λ s h.
+          sym (find-off (isOf s) (listingIn (k .rows)) (l .i) _ (test .loop-test .taken)
+          (here (k .rows) s (k .name) (l .i) (k .bytes) h ∙ ap (λ (x : ℕ). eqb x (k .name)) (sym (c .before .name-at .ensures))
+          ∙ ne-eqb _ _ (c .if1 .left))) ∙ l .inv .2 s h,
     )
 
 returns-2 : tie.Need-returns-2 Inv-loop μ-loop
 returns-2 c =
-    let a = c .before .before .before .before .before .args in
     let l = c .before .loop in
-    sym (find-end (isOf (a .t3)) (listingIn (a .rows .now)) (l .i) _ (c .loop-test .left)) ∙ l .inv .2
+    let k = known (c .before .before) in
+    sym (find-end (isOf (k .symbol)) (listingIn (k .rows)) (l .i) _ (c .loop-test .left)) ∙ l .inv .2 (k .symbol) (k .named)
 
 pub find-spec : {M : Type 1} → statement M
 find-spec =
@@ -103,10 +135,11 @@ find-spec =
     μ-loop
     limit-requires
     lesser-requires
+    slice-aggregate-low8
+    low8-requires
     loop-holds
-    mul-same-at
-    slice-aggregate-same-at
-    same-at-requires
+    mul-name-at
+    name-at-requires
     returns
     add-i
     loop-less

@@ -1,0 +1,185 @@
+// Whether a record keeps the rules of its type, asked of its eighty bytes, so that no record is copied to be judged.
+use kinds::Kind;
+use numbers::number4;
+use records::CENTRE;
+use records::CLASS;
+use records::CLOSE;
+use records::CONDITION;
+use records::CONTROL_WIDTH;
+use records::EVENT;
+use records::HIGH;
+use records::LETTER;
+use records::LOW;
+use records::NEW_SALE;
+use records::OLD_SALE;
+use records::PRICE;
+use records::RECORD;
+use records::SIZE;
+use records::SYMBOL;
+use records::SYMBOL_WIDTH;
+use records::TIME;
+use rules::centre_ok;
+use rules::class_ok;
+use rules::event_ok;
+use rules::price_ok;
+use rules::size_ok;
+use rules::summary_price_ok;
+use rules::time_ok;
+ghost use mathlib.Core.Path.{_≡_};
+ghost use mathlib.Core.List.{[]};
+ghost use Prim.Native.Nat.{_+_, _≤_};
+ghost use lib.ListN.{length};
+ghost use Rattle.octets.specs.Run.{part, all};
+ghost use Rattle.rules.specs.Rules as Rules;
+ghost use Rattle.records.specs.Held as Held;
+ghost use Rattle.records.specs.Packed.{recordOf};
+ghost use Rattle.packing.specs.Layouts.{toCondition, layoutS, layoutT, layoutC, layoutJ, layoutOf};
+ghost use Rattle.judge.specs.Judged.{keptIn, lawfulIn, rulesOf, saleRules};
+
+// Whether n bytes are all zero. It looks at every one: that is faster than to stop at the first that is not.
+fn none(b: &[u8; RECORD], at: usize, n: usize) -> bool
+    requires { ⌜ at + n ≤ 80 ⌝ }
+    ensures { λ r. ⌜ r ≡ all 0 (part (now (b .entry)) at n) ⌝ }
+{
+    let mut clear = true;
+    let mut i: usize = 0;
+    while i < n {
+        clear = clear & (b[at + i] == 0);
+        i += 1;
+    }
+    clear
+}
+
+// Whether n bytes are a text.
+fn text(b: &[u8], at: usize, n: usize) -> bool
+    requires { ⌜ at + n ≤ length (now b) ⌝ }
+    ensures { λ r. ⌜ r ≡ Rules.text (part (now (b .entry)) at n) ⌝ }
+{
+    texts::is_text(&b[at..at + n])
+}
+
+// Whether four bytes are a condition.
+fn condition(b: &[u8; RECORD], at: usize) -> bool
+    requires { ⌜ at + 4 ≤ 80 ⌝ }
+    ensures { λ r. ⌜ r ≡ Rules.condition (part (now (b .entry)) at 4) ⌝ }
+{
+    rules::condition_ok(b[at], b[at + 1], b[at + 2], b[at + 3])
+}
+
+// The rules of the trade that stands from a place on, behind another test. Its price and its size are read by the
+// caller, who knows the place beforehand.
+fn sale_ok(b: &[u8; RECORD], held: bool, at: usize, price: u32, size: u32) -> bool
+    requires { ⌜ at + 22 ≤ 80 ⌝ }
+    ensures { λ r. ⌜ r ≡ saleRules held (part (now (b .entry)) at 10) price size (part (now (b .entry)) (at + 18) 4) ⌝ }
+{
+    held
+        & text(b, at, CONTROL_WIDTH)
+        & price_ok(price)
+        & size_ok(size)
+        & condition(b, at + CONDITION)
+}
+
+// The rules of the fields that T, X and C have in common, with the letter.
+fn trade_ok(b: &[u8; RECORD], letter: u8) -> bool
+    ensures { λ r. ⌜ r ≡ rulesOf (toCondition letter []) (recordOf (now (b .entry))) ⌝ }
+{
+    let head = time_ok(number4(b, TIME))
+        & (b[LETTER] == letter)
+        & centre_ok(b[CENTRE])
+        & text(b, SYMBOL, SYMBOL_WIDTH)
+        & class_ok(b[CLASS]);
+    let price = number4(b, OLD_SALE + PRICE);
+    let size = number4(b, OLD_SALE + SIZE);
+    sale_ok(b, head, OLD_SALE, price, size)
+}
+
+// The rules of the fields that each type has.
+fn kept_s(b: &[u8; RECORD]) -> bool
+    ensures { λ r. ⌜ r ≡ Held.kept layoutS (recordOf (now (b .entry))) ⌝ }
+{
+    time_ok(number4(b, TIME)) & (b[LETTER] == b'S') & event_ok(b[EVENT])
+}
+
+// T and X: the volume has no rule.
+fn kept_t(b: &[u8; RECORD], letter: u8) -> bool
+    ensures { λ r. ⌜ r ≡ Held.kept (layoutT letter) (recordOf (now (b .entry))) ⌝ }
+{
+    trade_ok(b, letter)
+}
+
+fn kept_c(b: &[u8; RECORD]) -> bool
+    ensures { λ r. ⌜ r ≡ Held.kept layoutC (recordOf (now (b .entry))) ⌝ }
+{
+    let head = trade_ok(b, b'C');
+    let price = number4(b, NEW_SALE + PRICE);
+    let size = number4(b, NEW_SALE + SIZE);
+    sale_ok(b, head, NEW_SALE, price, size)
+}
+
+fn kept_j(b: &[u8; RECORD]) -> bool
+    ensures { λ r. ⌜ r ≡ Held.kept layoutJ (recordOf (now (b .entry))) ⌝ }
+{
+    time_ok(number4(b, TIME))
+        & (b[LETTER] == b'J')
+        & text(b, SYMBOL, SYMBOL_WIDTH)
+        & class_ok(b[CLASS])
+        & summary_price_ok(number4(b, HIGH))
+        & summary_price_ok(number4(b, LOW))
+        & summary_price_ok(number4(b, CLOSE))
+}
+
+// Whether a record bears a type's letter and keeps the rules of the fields that the type has, whatever stands in the
+// others: for a reader, who has just put zeros there.
+pub fn kept(b: &[u8; RECORD], kind: Kind) -> bool
+    ensures { λ r. ⌜ r ≡ keptIn (layoutOf kind) (recordOf (now (b .entry))) ⌝ }
+{
+    match kind {
+        Kind::Event => kept_s(b),
+        Kind::Trade => kept_t(b, b'T'),
+        Kind::Cancel => kept_t(b, b'X'),
+        Kind::Correction => kept_c(b),
+        Kind::Summary => kept_j(b),
+        Kind::Other => false,
+    }
+}
+
+// Each type's rules, and then the bytes of the fields that it lacks.
+fn lawful_s(b: &[u8; RECORD]) -> bool
+    ensures { λ r. ⌜ r ≡ Held.lawful layoutS (recordOf (now (b .entry))) ⌝ }
+{
+    kept_s(b) & none(b, CENTRE, 74)
+}
+
+// T and X.
+fn lawful_t(b: &[u8; RECORD], letter: u8) -> bool
+    ensures { λ r. ⌜ r ≡ Held.lawful (layoutT letter) (recordOf (now (b .entry))) ⌝ }
+{
+    kept_t(b, letter) & none(b, EVENT, 1) & none(b, NEW_SALE, 34)
+}
+
+fn lawful_c(b: &[u8; RECORD]) -> bool
+    ensures { λ r. ⌜ r ≡ Held.lawful layoutC (recordOf (now (b .entry))) ⌝ }
+{
+    kept_c(b) & none(b, EVENT, 1) & none(b, HIGH, 12)
+}
+
+fn lawful_j(b: &[u8; RECORD]) -> bool
+    ensures { λ r. ⌜ r ≡ Held.lawful layoutJ (recordOf (now (b .entry))) ⌝ }
+{
+    kept_j(b) & none(b, EVENT, 2) & none(b, OLD_SALE, 44)
+}
+
+// Whether a record bears a type's letter, keeps every rule of the type and has nothing in a field that the type lacks:
+// for a writer.
+pub fn lawful(b: &[u8; RECORD], kind: Kind) -> bool
+    ensures { λ r. ⌜ r ≡ lawfulIn (layoutOf kind) (recordOf (now (b .entry))) ⌝ }
+{
+    match kind {
+        Kind::Event => lawful_s(b),
+        Kind::Trade => lawful_t(b, b'T'),
+        Kind::Cancel => lawful_t(b, b'X'),
+        Kind::Correction => lawful_c(b),
+        Kind::Summary => lawful_j(b),
+        Kind::Other => false,
+    }
+}

@@ -1,0 +1,14 @@
+-- `octets::run::left` meets its contract.
+-- Assumes nothing.
+use native.Mathlib.Omega.{arith}
+use Rattle.octets.proofs.run.left.Statement.{statement}
+use Rattle.octets.proofs.run.left.Tie as tie
+
+returns : tie.Need-returns
+returns c = omega arith
+
+returns-2 : tie.Need-returns-2
+returns-2 c = omega arith
+
+pub left-spec : {M : Type 1} → statement M
+left-spec = tie.close (tie.spec returns returns-2)

@@ -1,0 +1,4 @@
+pub mod Good
+pub mod Moves
+pub mod Lengths
+pub mod Promise

@@ -1,0 +1,103 @@
+-- `packing::unpack` meets its contract.
+-- Assumes nothing.
+use mathlib.Core.Path.{ap, sym, _∙_}
+use Rattle.kinds.specs.declared.Kind.{Kind}
+use Rattle.records.specs.Held.{readBy}
+use Rattle.records.specs.Packed.{recordBytes}
+use Rattle.records.proofs.Stores.{no-bytes}
+use Rattle.packing.specs.Layouts.{layoutT, layoutOf}
+use Rattle.packing.specs.Packing.{filledIn}
+use borrow.Author.Needs.{needs}
+use Rattle.packing.proofs.unpack.Statement.{statement}
+use Rattle.packing.proofs.unpack.Tie as tie
+
+enum-told : tie.Need-enum-told
+enum-told c = search needs
+
+unpack-s-requires : tie.Need-unpack-s-requires
+unpack-s-requires c κs = search needs
+
+enum-told-2 : tie.Need-enum-told-2
+enum-told-2 c = search needs
+
+unpack-t-requires : tie.Need-unpack-t-requires
+unpack-t-requires c κs = search needs
+
+enum-told-3 : tie.Need-enum-told-3
+enum-told-3 c = search needs
+
+unpack-t-requires-2 : tie.Need-unpack-t-requires-2
+unpack-t-requires-2 c κs = search needs
+
+enum-told-4 : tie.Need-enum-told-4
+enum-told-4 c = search needs
+
+unpack-c-requires : tie.Need-unpack-c-requires
+unpack-c-requires c κs = search needs
+
+enum-told-5 : tie.Need-enum-told-5
+enum-told-5 c = search needs
+
+unpack-j-requires : tie.Need-unpack-j-requires
+unpack-j-requires c κs = search needs
+
+enum-told-6 : tie.Need-enum-told-6
+enum-told-6 c = search needs
+
+returns : tie.Need-returns
+returns c =
+    let told = c .before .before in
+    let m = told .before .before .before .before .args .m .now in
+    c .unpack-s .ensures ∙ sym (ap (λ (k : Kind). recordBytes (filledIn (layoutOf k) m)) (told .enum-told .given .1))
+
+returns-2 : tie.Need-returns-2
+returns-2 c =
+    let told = c .before .before in
+    let m = told .before .before .before .before .args .m .now in
+    c .unpack-t .ensures ∙ sym (ap (λ (k : Kind). recordBytes (filledIn (layoutOf k) m)) (told .enum-told2 .given .1))
+
+returns-3 : tie.Need-returns-3
+unfolding readBy layoutT
+returns-3 c =
+    let told = c .before .before in
+    let m = told .before .before .before .before .args .m .now in
+    c .unpack-t2 .ensures ∙ sym (ap (λ (k : Kind). recordBytes (filledIn (layoutOf k) m)) (told .enum-told3 .given .1))
+
+returns-4 : tie.Need-returns-4
+returns-4 c =
+    let told = c .before .before in
+    let m = told .before .before .before .before .args .m .now in
+    c .unpack-c .ensures ∙ sym (ap (λ (k : Kind). recordBytes (filledIn (layoutOf k) m)) (told .enum-told4 .given .1))
+
+returns-5 : tie.Need-returns-5
+returns-5 c =
+    let told = c .before .before in
+    let m = told .before .before .before .before .args .m .now in
+    c .unpack-j .ensures ∙ sym (ap (λ (k : Kind). recordBytes (filledIn (layoutOf k) m)) (told .enum-told5 .given .1))
+
+returns-6 : tie.Need-returns-6
+returns-6 c =
+    let s = c .before .before .before .before in
+    sym no-bytes ∙ sym (ap (λ (k : Kind). recordBytes (filledIn (layoutOf k) (s .args .m .now))) (c .enum-told6 .given .1))
+
+pub unpack-spec : {M : Type 1} → statement M
+unpack-spec =
+    tie.close
+    (tie.spec
+    enum-told
+    unpack-s-requires
+    enum-told-2
+    unpack-t-requires
+    enum-told-3
+    unpack-t-requires-2
+    enum-told-4
+    unpack-c-requires
+    enum-told-5
+    unpack-j-requires
+    enum-told-6
+    returns
+    returns-2
+    returns-3
+    returns-4
+    returns-5
+    returns-6)
