@@ -12,7 +12,7 @@ use Rattle.records.specs.declared.Sale.{Sale}
 use Rattle.records.specs.declared.Record.{Record}
 use Rattle.message.specs.declared.Reading.{Reading}
 use Rattle.records.specs.Zeros.{noSale, noRecord}
-use Rattle.kinds.specs.Kinds.{kindOf}
+use Rattle.kinds.specs.Kinds.{isCorrection, namesOld, makesNew, kindOf}
 use Rattle.layout.specs.Values.{roomOf}
 use Rattle.records.specs.Held.{saleFrom, newFrom, recordFrom, readBy}
 use Rattle.message.specs.Layouts.{letterPlace, layoutS, layoutT, layoutC, layoutJ, layoutOf}
@@ -22,10 +22,10 @@ use Rattle.message.proofs.Said.{Said, unshaped, unkept, obeyed, said}
 use Rattle.kinds.specs.declared.Kind.{Kind}
 use Rattle.kinds.specs.declared.Kind.the-variants.{Event, Trade, Cancel, Correction, Summary, Other}
 use Rattle.lines.specs.declared.Line.{Line}
-use Rattle.lines.specs.Lines.{lineBytes, lineIn, withDead}
+use Rattle.lines.specs.Lines.{lineBytes, lineIn, withLine, withDead}
 use Rattle.lines.proofs.Bytes.{line-bytes, with-line-bytes, with-dead-bytes}
 use Rattle.keys.specs.Keys.{kindIn}
-use Rattle.take.specs.Taking.{madeLine, correctedLine, linesBy}
+use Rattle.take.specs.Taking.{madeLine, correctedLine, corrected, linesBy}
 use Rattle.book.specs.State.{State, Arrival, wantedIn}
 use Rattle.book.specs.Calls.{messageGiven, lineNamed, taking, spent, delivered}
 
@@ -106,13 +106,11 @@ module _ (r : Record) (h : RecordBytes r) where
 
   lines-bytes : (kind : Kind) (m : List ℕ) (used n k : ℕ) → Bytes m → Bytes (linesBy kind m used n r k)
   unfolding linesBy
-  lines-bytes Event m used n k b = b
-  lines-bytes Trade m used n k b = with-line-bytes m used (madeLine n r) b (made-bytes n)
-  lines-bytes Cancel m used n k b = with-dead-bytes m k b
-  lines-bytes Correction m used n k b =
-      with-line-bytes (withDead m k) used (correctedLine (lineIn m k) r) (with-dead-bytes m k b) (corrected-bytes (lineIn m k))
-  lines-bytes Summary m used n k b = b
-  lines-bytes Other m used n k b = b
+  lines-bytes kind m used n k b =
+      either-way Bytes (isCorrection kind) (corrected m used r k) _
+      (with-line-bytes (withDead m k) used (correctedLine (lineIn m k) r) (with-dead-bytes m k b) (corrected-bytes (lineIn m k)))
+      (either-way Bytes (namesOld kind) (withDead m k) _ (with-dead-bytes m k b)
+      (either-way Bytes (makesNew kind) (withLine m used (madeLine n r)) m (with-line-bytes m used (madeLine n r) b (made-bytes n)) b))
 
 -- the lent lines are bytes after a delivery, if they and the message were before
 pub deliver-bytes : (s : State) (a : Arrival) → Bytes (s .lines) → Bytes (a .message) → Bytes (delivered s a .state .lines)
