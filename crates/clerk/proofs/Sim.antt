@@ -1,7 +1,7 @@
 -- The book after any used messages, on any sheet without a symbol twice, is the one that the clerk works out.
 -- Assumes nothing.
 use Prim.Native.Nat.{ℕ, suc, _+_}
-use mathlib.Core.Path.{_≡_, refl, sym, ap, ap₂, _∙_}
+use mathlib.Core.Path.{_≡_, refl, sym, ap, ap₂, subst, _∙_}
 use mathlib.Core.Bool.{Bool, true, false, cond, not, _&&_, _||_, true≢false}
 use mathlib.Core.List.{List, [], _∷_, _++_, map, map-append, append-nil}
 use native.Mathlib.Numerals.{add-one}
@@ -145,6 +145,12 @@ origin-none : (e : Taken) (es : List Taken) (key : List ℕ) → (makesIn (e .me
 unfolding originOf
 origin-none e es key h = rw h
 
+-- what a taken message makes, by its test
+made-is : (e : Taken) (es : List Taken) (later : List (List ℕ)) (t : Bool) → makesIn (e .message) ≡ t
+    → made e es later ≡ cond t (trade e (originOf (e ∷ es) (keyIn (e .message))) later ∷ []) []
+made-is e es later t h =
+    ap (λ (x : Bool). cond {A = List Line} x (trade e (originOf (e ∷ es) (keyIn (e .message))) later ∷ []) []) h
+
 -- the same line, found among one more line
 origin-step : (key : List ℕ) (e : Taken) (es : List Taken) (later : List (List ℕ)) (A : List Line)
     → NoRepeat (keysOf (A ++ made e es later))
@@ -174,11 +180,19 @@ origin-step key e es later A u i = go (makesIn (e .message)) refl (same (keyIn (
         either true t = refl
         either false t = named-none key [] refl ∙ sym (named-none key A t)
 
+    in-made : {ls : List Line} → ls ≡ made e es later → originIn (named key (A ++ ls)) ≡ originOf (e ∷ es) key
+        → originIn (named key (A ++ made e es later)) ≡ originOf (e ∷ es) key
+    in-made q h = ap (λ (x : List Line). originIn (named key (A ++ x))) (sym q) ∙ h
+
     go : (t : Bool) → makesIn (e .message) ≡ t → (s : Bool) → same (keyIn (e .message)) key ≡ s
         → originIn (named key (A ++ made e es later)) ≡ originOf (e ∷ es) key
-    go true t true s = rw t (hit (rw t at u) s)
-    go true t false s = rw t (ap originIn (miss s) ∙ i ∙ sym (origin-none e es key (rw (t, s))))
-    go false t s q = rw t (rw append-nil (i ∙ sym (origin-none e es key (rw t))))
+    go true t true s =
+        let one = made-is e es later true t in
+        in-made (sym one) (hit (subst (λ (x : List Line). NoRepeat (keysOf (A ++ x))) one u) s)
+    go true t false s =
+        in-made (sym (made-is e es later true t)) (ap originIn (miss s) ∙ i ∙ sym (origin-none e es key (ap₂ {C = Bool} (λ x y. x && y) t s)))
+    go false t s q =
+        in-made (sym (made-is e es later false t)) (rw append-nil (i ∙ sym (origin-none e es key (ap (λ (x : Bool). x && same (keyIn (e .message)) key) t))))
 
 origin-is : (key : List ℕ) (later : List (List ℕ)) (es : List Taken) → NoRepeat (keysOf (tradesBut later es))
     → originIn (named key (tradesBut later es)) ≡ originOf es key
@@ -206,17 +220,41 @@ module _ (n : ℕ) (r : Record) (es : List Taken) where
       let p : originOf es (oldKey r) ≡ originIn (named (oldKey r) (tradesOf es)) = sym (origin-is (oldKey r) [] es u) in
       rw (o, m, same-refl (r .centre ∷ r .new .control), p)
 
+  -- the lines after it, by its two tests
+  for : (ls : List Line) (o t : Bool) → namesIn r ≡ o → makesIn r ≡ t
+      → linesFor (kindIn r) n r ls
+      ≡ cond (o && t) (killFound ls (lineWith (oldKey r) ls) ++ (correctedLine (lineFound ls (lineWith (oldKey r) ls)) r ∷ []))
+      (cond o (killFound ls (lineWith (oldKey r) ls)) (cond t (ls ++ (madeLine n r ∷ [])) ls))
+  unfolding linesFor
+  for ls o t h g = rw (h, g)
+
   lines-step : NoRepeat (keysOf (tradesOf es)) → linesFor (kindIn r) n r (tradesOf es) ≡ tradesOf (e ∷ es)
   unfolding linesFor tradesBut
   lines-step u = go (namesIn r) refl (makesIn r) refl
     where
-      go : (o : Bool) → namesIn r ≡ o → (t : Bool) → makesIn r ≡ t → linesFor (kindIn r) n r (tradesOf es) ≡ tradesOf (e ∷ es)
+      old : List Line
+      old = tradesOf es
+
       -- T and C put a line behind the others, X and C kill one
-      go true o true t =
-          rw (o, t) (sym (ap₂ {C = List Line} (λ x y. x ++ (y ∷ [])) (cut-first (oldKey r) es u) (rw (o, t) at correction-is o t u)))
-      go true o false t = rw (o, t) (sym (append-nil _ ∙ cut-first (oldKey r) es u))
-      go false o true t = rw (o, t) (ap {B = List Line} (λ x. tradesOf es ++ (x ∷ [])) (sym (rw (o, t) at trade-is o t)))
-      go false o false t = rw (o, t) (sym (append-nil _))
+      behind : (l : Line) → namesIn r ≡ false → makesIn r ≡ true → trade e (originOf (e ∷ es) (keyIn r)) [] ≡ l
+          → old ++ (l ∷ []) ≡ tradesOf (e ∷ es)
+      behind l o m q = rw (o, m) (ap {B = List Line} (λ x. old ++ (x ∷ [])) (sym (rw o at q)))
+
+      killed : namesIn r ≡ true → makesIn r ≡ false → killFound old (lineWith (oldKey r) old) ≡ tradesOf (e ∷ es)
+      killed o m = rw (o, m) (sym (append-nil _ ∙ cut-first (oldKey r) es u))
+
+      both : (l : Line) → namesIn r ≡ true → makesIn r ≡ true → trade e (originOf (e ∷ es) (keyIn r)) [] ≡ l
+          → killFound old (lineWith (oldKey r) old) ++ (l ∷ []) ≡ tradesOf (e ∷ es)
+      both l o m q = rw (o, m) (sym (ap₂ {C = List Line} (λ x y. x ++ (y ∷ [])) (cut-first (oldKey r) es u) (rw (o, m) at q)))
+
+      neither : namesIn r ≡ false → makesIn r ≡ false → old ≡ tradesOf (e ∷ es)
+      neither o m = rw (o, m) (sym (append-nil _))
+
+      go : (o : Bool) → namesIn r ≡ o → (t : Bool) → makesIn r ≡ t → linesFor (kindIn r) n r old ≡ tradesOf (e ∷ es)
+      go true o true t = for old true true o t ∙ both _ o t (correction-is o t u)
+      go true o false t = for old true false o t ∙ killed o t
+      go false o true t = for old false true o t ∙ behind (madeLine n r) o t (trade-is o t)
+      go false o false t = for old false false o t ∙ neither o t
 
   lines-count : length (tradesOf (e ∷ es)) ≡ cond (makesIn r) (length (tradesOf es) + 1) (length (tradesOf es))
   lines-count =
