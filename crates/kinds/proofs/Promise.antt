@@ -8,6 +8,7 @@ use Rattle.kinds.specs.declared.Traits.{Traits}
 use Rattle.kinds.specs.declared.Kind.the-variants.{Event, Trade, Cancel, Correction, Summary, Other}
 use Rattle.kinds.specs.Kinds.{letterOf, kindOf}
 use Rattle.kinds.proofs.kind_of.Reads as kind-of-reads
+use Rattle.kinds.proofs.kind_at.Reads as kind-at-reads
 use Rattle.kinds.proofs.traits_of.Reads as traits-of-reads
 use Rattle.kinds.proofs.is_event.Reads as is-event-reads
 use Rattle.kinds.proofs.is_correction.Reads as is-correction-reads
@@ -19,6 +20,10 @@ use Rattle.kinds.proofs.sets_volume.Reads as sets-volume-reads
 pub kind-of-one : (letter letter₁ letter₂ : ℕ) (k k′ : Kind)
     → kind-of-reads.Learnt tt (letter, tt) k (letter₁, tt) → kind-of-reads.Learnt tt (letter, tt) k′ (letter₂, tt) → k ≡ k′
 kind-of-one letter letter₁ letter₂ k k′ h h′ = h ∙ sym h′
+
+pub kind-at-one : (place place₁ place₂ : ℕ) (k k′ : Kind)
+    → kind-at-reads.Learnt tt (place, tt) k (place₁, tt) → kind-at-reads.Learnt tt (place, tt) k′ (place₂, tt) → k ≡ k′
+kind-at-one place place₁ place₂ k k′ h h′ = h ∙ sym h′
 
 -- a type is found again by its letter, so no two share one
 pub kind-again : (k : Kind) → kindOf (letterOf k) ≡ k

@@ -4,6 +4,7 @@ use Prim.Native.Nat.{ℕ}
 use mathlib.Core.Bool.{Bool, true, false, cond, _&&_}
 use mathlib.Core.List.{List, [], _∷_}
 use lib.Dec.{eqb}
+use lib.ListN.{getD}
 use Rattle.kinds.specs.declared.Kind.{Kind}
 use Rattle.kinds.specs.declared.Traits.{Traits}
 use Rattle.kinds.specs.declared.Kind.the-variants.{Event, Trade, Cancel, Correction, Summary, Other}
@@ -20,6 +21,10 @@ letterOf Other = 0
 -- the five types, in the order of document 01; `Other` is none
 abbrev pub allKinds : List Kind
 allKinds = Event ∷ Trade ∷ Cancel ∷ Correction ∷ Summary ∷ []
+
+-- the type at a place of the list; none past its end
+abbrev pub kindAt : ℕ → Kind
+kindAt place = getD allKinds place Other
 
 -- the type of a list that a letter names
 abbrev pub kindAmong : List Kind → ℕ → Kind

@@ -1,6 +1,6 @@
 // A message's type. Its letter is asked here and nowhere else; whoever goes by the type goes by its `Kind`.
 ghost use mathlib.Core.Path.{_≡_};
-ghost use Rattle.kinds.specs.Kinds.{kindOf, traitsOf};
+ghost use Rattle.kinds.specs.Kinds.{kindOf, kindAt, traitsOf};
 ghost use Rattle.kinds.specs.Kinds.{isEvent, isCorrection, isSummary, namesOld, makesNew, setsVolume};
 
 pub enum Kind {
@@ -28,6 +28,20 @@ pub fn kind_of(letter: u8) -> Kind
         b'X' => Kind::Cancel,
         b'C' => Kind::Correction,
         b'J' => Kind::Summary,
+        _ => Kind::Other,
+    }
+}
+
+// The type at a place of the list of types: S T X C J; none past its end.
+pub fn kind_at(place: u64) -> Kind
+    ensures { λ k. ⌜ k ≡ kindAt place ⌝ }
+{
+    match place {
+        0 => Kind::Event,
+        1 => Kind::Trade,
+        2 => Kind::Cancel,
+        3 => Kind::Correction,
+        4 => Kind::Summary,
         _ => Kind::Other,
     }
 }
