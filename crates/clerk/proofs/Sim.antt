@@ -180,19 +180,21 @@ origin-step key e es later A u i = go (makesIn (e .message)) refl (same (keyIn (
         either true t = refl
         either false t = named-none key [] refl ∙ sym (named-none key A t)
 
-    in-made : {ls : List Line} → ls ≡ made e es later → originIn (named key (A ++ ls)) ≡ originOf (e ∷ es) key
+    in-made : {ls : List Line} → made e es later ≡ ls → originIn (named key (A ++ ls)) ≡ originOf (e ∷ es) key
         → originIn (named key (A ++ made e es later)) ≡ originOf (e ∷ es) key
-    in-made q h = ap (λ (x : List Line). originIn (named key (A ++ x))) (sym q) ∙ h
+    in-made q h = ap (λ (x : List Line). originIn (named key (A ++ x))) q ∙ h
 
     go : (t : Bool) → makesIn (e .message) ≡ t → (s : Bool) → same (keyIn (e .message)) key ≡ s
         → originIn (named key (A ++ made e es later)) ≡ originOf (e ∷ es) key
     go true t true s =
         let one = made-is e es later true t in
-        in-made (sym one) (hit (subst (λ (x : List Line). NoRepeat (keysOf (A ++ x))) one u) s)
+        in-made one (hit (subst (λ (x : List Line). NoRepeat (keysOf (A ++ x))) one u) s)
     go true t false s =
-        in-made (sym (made-is e es later true t)) (ap originIn (miss s) ∙ i ∙ sym (origin-none e es key (ap₂ {C = Bool} (λ x y. x && y) t s)))
+        let other = origin-none e es key (ap₂ {C = Bool} (λ x y. x && y) t s) in
+        in-made (made-is e es later true t) (ap originIn (miss s) ∙ i ∙ sym other)
     go false t s q =
-        in-made (sym (made-is e es later false t)) (rw append-nil (i ∙ sym (origin-none e es key (ap (λ (x : Bool). x && same (keyIn (e .message)) key) t))))
+        let other = origin-none e es key (ap (λ (x : Bool). x && same (keyIn (e .message)) key) t) in
+        in-made (made-is e es later false t) (rw append-nil (i ∙ sym other))
 
 origin-is : (key : List ℕ) (later : List (List ℕ)) (es : List Taken) → NoRepeat (keysOf (tradesBut later es))
     → originIn (named key (tradesBut later es)) ≡ originOf es key
