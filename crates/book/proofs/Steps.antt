@@ -1,7 +1,7 @@
 -- From what each call works out, branch by branch, to what it promises.
 -- Assumes nothing.
 use mathlib.Core.Path.{_≡_, refl, ap, sym, _∙_}
-use mathlib.Core.Bool.{Bool, true, false, cond, not, _&&_, _||_, true≢false}
+use mathlib.Core.Bool.{Bool, true, false, cond, not, _&&_, _||_}
 use mathlib.Core.List.{List}
 use Prim.Native.Nat.{ℕ, _≤_}
 use native.Mathlib.Omega.{arith}
@@ -18,8 +18,8 @@ use Rattle.message.specs.Reader.{readOf}
 use Rattle.records.specs.declared.Record.{Record}
 use Rattle.cells.specs.declared.Found.the-variants.{Nothing, At}
 use Rattle.kinds.specs.declared.Kind.{Kind}
-use Rattle.kinds.specs.declared.Kind.the-variants.{Event, Trade, Cancel, Correction, Summary, Other}
 use Rattle.kinds.specs.Kinds.{isEvent, namesOld}
+use Rattle.kinds.proofs.Laws.{event-summary, event-sets}
 use Rattle.rows.specs.declared.Listing.{Listing}
 use Rattle.rows.specs.declared.Row.{Row}
 use Rattle.rows.specs.Rows.{rowLimit, listingOf, rowIn, withRow}
@@ -134,22 +134,12 @@ module _ (s : State) (l : Listing) where
 
 event-idle : (k : Kind) (m : List ℕ) (r : Record) (i j : ℕ) → isEvent k ≡ true → rowsBy k m r i ≡ rowsBy k m r j
 unfolding rowsBy
-event-idle Event m r i j e = refl
-event-idle Trade m r i j e = absurd (true≢false (sym e))
-event-idle Cancel m r i j e = absurd (true≢false (sym e))
-event-idle Correction m r i j e = absurd (true≢false (sym e))
-event-idle Summary m r i j e = absurd (true≢false (sym e))
-event-idle Other m r i j e = absurd (true≢false (sym e))
+event-idle k m r i j e = rw (event-summary k e, event-sets k e)
 
 unnamed-idle : (k : Kind) (m : List ℕ) (used n : ℕ) (r : Record) (i j : ℕ) → namesOld k ≡ false
     → linesBy k m used n r i ≡ linesBy k m used n r j
 unfolding linesBy
-unnamed-idle Event m used n r i j e = refl
-unnamed-idle Trade m used n r i j e = refl
-unnamed-idle Cancel m used n r i j e = absurd (true≢false e)
-unnamed-idle Correction m used n r i j e = absurd (true≢false e)
-unnamed-idle Summary m used n r i j e = refl
-unnamed-idle Other m used n r i j e = refl
+unnamed-idle k m used n r i j e = rw e
 
 -- ---- a message judged, under the wanted number
 

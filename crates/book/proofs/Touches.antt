@@ -5,7 +5,7 @@ use Prim.Native.Nat.{ℕ, suc, _+_, _*_, _^_, _≤_, _<_}
 use mathlib.Core.Path.{_≡_, refl, ap, sym, _∙_}
 use mathlib.Core.Logic.{_⊎_, ⊎-elim}
 use mathlib.Core.List.{List, [], _∷_}
-use mathlib.Core.Bool.{Bool, true, false, cond, not, true≢false}
+use mathlib.Core.Bool.{Bool, true, false, cond, not, _&&_, true≢false}
 use native.Mathlib.Omega.{arith}
 use borrow.Author.Tests.{eqb-true}
 use lib.Dec.{eqb, ltb, lit<}
@@ -21,8 +21,8 @@ use Rattle.cells.specs.declared.Found.{Found}
 use Rattle.cells.specs.declared.Found.the-variants.{Nothing, At}
 use Rattle.cells.proofs.Slabs.{found-below}
 use Rattle.kinds.specs.declared.Kind.{Kind}
-use Rattle.kinds.specs.declared.Kind.the-variants.{Event, Trade, Cancel, Correction, Summary, Other}
-use Rattle.kinds.specs.Kinds.{isEvent, isSummary, namesOld, makesNew}
+use Rattle.kinds.specs.Kinds.{isEvent, isSummary, namesOld, makesNew, setsVolume}
+use Rattle.kinds.proofs.Laws.{sets-event, summary-sets}
 use Rattle.lines.specs.Cell.{lineCell, lineCap, atPlace, atTime, atLive}
 use Rattle.lines.specs.declared.Line.{Line}
 use Rattle.lines.specs.Lines.{lineFrom, lineLimit, lineAt, noLine, lineIn, withLine, withDead}
@@ -39,7 +39,7 @@ use Rattle.walk.specs.Meaning.{Are}
 use Rattle.walk.proofs.Meaning.{figures-are, volume-fits}
 use Rattle.keys.specs.Keys.{kindIn}
 use Rattle.table.specs.Table.{isFound, isListed}
-use Rattle.take.specs.Taking.{madeLine, correctedLine, corrected, linesBy, reported, rowsBy}
+use Rattle.take.specs.Taking.{madeLine, correctedLine, corrected, linesBy, reported, summarised, rowsBy}
 use Rattle.show.specs.Showing.{shownOf, nothingShown}
 use Rattle.book.specs.State.{State, Arrival, wantedIn, rowsIn, sheetOf, linesIn, soundIn}
 use Rattle.book.proofs.Demand1.{answer-taken}
@@ -98,7 +98,7 @@ row-outside m i from bytes start end j f a b o =
     let k = row-touches m i from bytes j f in
     ⊎-elim (λ (h : j < start). k .0 (omega arith)) (λ (h : end ≤ j). k .1 (omega arith)) o
 
--- ---- what a message does, type by type: f of the room stays, if it stays at each step
+-- ---- what a message does, test by test: f of the room stays, if it stays at each step
 
 module _ {A : Type 0} (f : List ℕ → A) where
   by-lines : (kind : Kind) (m : List ℕ) (used n : ℕ) (r : Record) (k : ℕ)
@@ -107,24 +107,27 @@ module _ {A : Type 0} (f : List ℕ → A) where
       → (makesNew kind ≡ true → f (corrected m used r k) ≡ f (withDead m k))
       → f (linesBy kind m used n r k) ≡ f m
   unfolding linesBy
-  by-lines Event m used n r k made dead new = refl
-  by-lines Trade m used n r k made dead new = made refl
-  by-lines Cancel m used n r k made dead new = dead refl
-  by-lines Correction m used n r k made dead new = new refl ∙ dead refl
-  by-lines Summary m used n r k made dead new = refl
-  by-lines Other m used n r k made dead new = refl
+  by-lines kind m used n r k made dead new = go (namesOld kind) refl (makesNew kind) refl
+    where
+      go : (o : Bool) → namesOld kind ≡ o → (t : Bool) → makesNew kind ≡ t
+          → f (cond (o && t) (corrected m used r k) (cond o (withDead m k) (cond t (withLine m used (madeLine n r)) m))) ≡ f m
+      go true o true t = new t ∙ dead o
+      go true o false t = dead o
+      go false o true t = made t
+      go false o false t = refl
 
   by-rows : (kind : Kind) (m : List ℕ) (r : Record) (i : ℕ)
       → (isSummary kind ≡ true → f (withSummary m i (r .high) (r .low)) ≡ f m)
       → (isEvent kind ≡ false → (w : List ℕ) → f (reported w r i) ≡ f w)
       → f (rowsBy kind m r i) ≡ f m
   unfolding rowsBy
-  by-rows Event m r i summary report = refl
-  by-rows Trade m r i summary report = report refl m
-  by-rows Cancel m r i summary report = report refl m
-  by-rows Correction m r i summary report = report refl m
-  by-rows Summary m r i summary report = report refl (withSummary m i (r .high) (r .low)) ∙ summary refl
-  by-rows Other m r i summary report = refl
+  by-rows kind m r i summary report = go (isSummary kind) refl (setsVolume kind) refl
+    where
+      go : (j : Bool) → isSummary kind ≡ j → (t : Bool) → setsVolume kind ≡ t
+          → f (cond j (summarised m r i) (cond t (reported m r i) m)) ≡ f m
+      go true j t v = report (sets-event kind (summary-sets kind j)) (withSummary m i (r .high) (r .low)) ∙ summary j
+      go false j true t = report (sets-event kind t) m
+      go false j false t = refl
 
 abbrev byte : ℕ → List ℕ → ℕ
 byte j m = getD m j 0

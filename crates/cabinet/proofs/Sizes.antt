@@ -1,16 +1,17 @@
 -- The sizes that a caller is told are those that the book, the reader and the records have.
 -- Assumes nothing.
-use Prim.Native.Nat.{ℕ, _/_, _≤_, min}
-use mathlib.Core.Path.{_≡_, refl}
-use mathlib.Core.List.{[], _∷_}
-use mathlib.Core.Bool.{Bool, true, false, cond}
-use lib.Dec.{eqb, lit≤}
-use lib.ListN.{length, List·getD-eq-default}
+use Prim.Native.Nat.{ℕ, suc, _+_, _-_, _/_, _≤_, min}
+use mathlib.Core.Path.{_≡_, refl, ap, ap₂, sym, _∙_}
+use mathlib.Core.List.{List, _∷_}
+use native.Mathlib.Omega.{arith}
+use lib.ListN.{length, List·getD-eq-default, List·getD-map}
+use Rattle.kinds.specs.declared.Kind.the-variants.{Correction, Other}
+use Rattle.kinds.specs.Kinds.{letterOf, allKinds, kindAt, kindOf}
+use Rattle.kinds.proofs.Promise.{kind-again}
 use Rattle.records.specs.declared.Record.{Record}
 use Rattle.records.specs.Fits.{RecordFits}
-use Rattle.packing.specs.Layouts.{layoutS, layoutT, layoutC, layoutJ}
-use Rattle.packing.specs.Packing.{lengthBy}
-use Rattle.packing.proofs.Lengths.{length-by}
+use Rattle.packing.specs.Packing.{lengthOf, printedLengths, lengthBy}
+use Rattle.packing.proofs.Lengths.{lengths-printed, longest-is, length-longest}
 use Rattle.counters.specs.declared.Counters.{Counters}
 use Rattle.show.specs.declared.RowShown.{RowShown}
 use Rattle.words.specs.Words.{counterWords, rowWords}
@@ -21,14 +22,22 @@ use Rattle.records.proofs.Stores.{fits-long, record-length}
 use Rattle.cabinet.specs.Sizes.{sizes, sizeOf}
 
 -- past the end of the list
-pub size-none : (which : ℕ) → 13 ≤ which → sizeOf which ≡ 0
+pub size-none : (which : ℕ) → length sizes ≤ which → sizeOf which ≡ 0
 unfolding sizeOf
 size-none which h = List·getD-eq-default sizes 0 h
+
+-- from 8 on the types' lengths, in their order; of what is no type 0
+pub size-type : (which : ℕ) → 8 ≤ which → lengthOf (kindAt (which - 8)) ≡ sizeOf which
+unfolding sizeOf
+size-type which h = sym (ap sizeOf e ∙ List·getD-map lengthOf allKinds (which - 8) Other)
+  where
+    e : which ≡ suc (suc (suc (suc (suc (suc (suc (suc (which - 8))))))))
+    e = omega (arith, h)
 
 -- a room of so many bytes has so many rows or lines; no message is longer, and a C is as long; a record, the counters and a row
 -- are as long, and so is a message of each type
 pub record SizesAre : Type 0 where
-  pub printed : sizes ≡ 30 ∷ 256 ∷ 40 ∷ 65536 ∷ 67 ∷ 80 ∷ 5 ∷ 15 ∷ 6 ∷ 45 ∷ 45 ∷ 67 ∷ 34 ∷ []
+  pub printed : sizes ≡ 30 ∷ 256 ∷ 40 ∷ 65536 ∷ 67 ∷ 80 ∷ 5 ∷ 15 ∷ printedLengths
   pub rows : (room : ℕ) → rowLimit room ≡ min (sizeOf 1) (room / sizeOf 0)
   pub lines : (room : ℕ) → lineLimit room ≡ min (sizeOf 3) (room / sizeOf 2)
   pub longest : (letter : ℕ) → lengthBy letter ≤ sizeOf 4
@@ -36,36 +45,25 @@ pub record SizesAre : Type 0 where
   pub bytes : (r : Record) → RecordFits r → length (recordBytes r) ≡ sizeOf 5
   pub counters : (c : Counters) → length (counterWords c) ≡ sizeOf 6
   pub figures : (r : RowShown) → length (rowWords r) ≡ sizeOf 7
-  pub s : lengthBy 83 ≡ sizeOf 8
-  pub t : lengthBy 84 ≡ sizeOf 9
-  pub x : lengthBy 88 ≡ sizeOf 10
-  pub c : lengthBy 67 ≡ sizeOf 11
-  pub j : lengthBy 74 ≡ sizeOf 12
+  pub types : (place : ℕ) → lengthBy (letterOf (kindAt place)) ≡ sizeOf (8 + place)
 
-either : (t : Bool) (a b n : ℕ) → a ≤ n → b ≤ n → cond t a b ≤ n
-either true a b n h k = h
-either false a b n h k = k
+by-place : (place : ℕ) → lengthOf (kindAt place) ≡ sizeOf (8 + place)
+by-place place =
+    let e : 8 + place - 8 ≡ place = omega arith in
+    ap (λ (i : ℕ). lengthOf (kindAt i)) (sym e) ∙ size-type (8 + place) (omega arith)
 
 pub sizes-are : SizesAre
-unfolding sizeOf counterWords rowWords layoutS layoutT layoutC layoutJ packed
+unfolding sizeOf lengthBy counterWords rowWords packed
 sizes-are =
     record {
-      printed = refl;
+      printed =
+          ap₂ {C = List ℕ} (λ a b. 30 ∷ 256 ∷ 40 ∷ 65536 ∷ a ∷ 80 ∷ 5 ∷ 15 ∷ b) longest-is lengths-printed;
       rows = λ room. refl;
       lines = λ room. refl;
-      longest =
-          λ k.
-          rw (length-by k)
-          (either (eqb k 83) 6 _ 67 (lit≤ tt)
-          (either (eqb k 84) 45 _ 67 (lit≤ tt)
-          (either (eqb k 88) 45 _ 67 (lit≤ tt) (either (eqb k 67) 67 _ 67 (lit≤ tt) (either (eqb k 74) 34 0 67 (lit≤ tt) (lit≤ tt))))));
-      attained = length-by 67;
+      longest = λ k. length-longest (kindOf k);
+      attained = ap lengthOf (kind-again Correction);
       bytes = λ r g. record-length r (fits-long r g);
       counters = λ c. refl;
       figures = λ r. refl;
-      s = length-by 83;
-      t = length-by 84;
-      x = length-by 88;
-      c = length-by 67;
-      j = length-by 74;
+      types = λ place. ap lengthOf (kind-again (kindAt place)) ∙ by-place place;
     }

@@ -124,6 +124,9 @@ pub extern "C" fn sorundappa_write(bytes: &[u8; records::RECORD], out: &mut [u8]
     told(a)
 }
 
+// Where the list of sizes has those of the types' messages, S T X C J.
+const FIRST_TYPE: u64 = 8;
+
 // A size that a caller needs, by its place in the list of sizes; 0 past the end of the list.
 #[no_mangle]
 pub extern "C" fn sorundappa_size(which: u64) -> u64
@@ -134,15 +137,10 @@ pub extern "C" fn sorundappa_size(which: u64) -> u64
         1 => rows::CAP as u64,
         2 => lines::CELL as u64,
         3 => lines::CAP as u64,
-        4 => packing::C_LENGTH as u64,
+        4 => packing::LONGEST as u64,
         5 => records::RECORD as u64,
         6 => words::COUNTERS as u64,
         7 => words::ROW as u64,
-        8 => packing::S_LENGTH as u64,
-        9 => packing::T_LENGTH as u64,
-        10 => packing::T_LENGTH as u64,
-        11 => packing::C_LENGTH as u64,
-        12 => packing::J_LENGTH as u64,
-        _ => 0,
+        _ => packing::length_of(kinds::kind_at(which - FIRST_TYPE)) as u64,
     }
 }

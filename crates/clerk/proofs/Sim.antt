@@ -1,8 +1,8 @@
 -- The book after any used messages, on any sheet without a symbol twice, is the one that the clerk works out.
 -- Assumes nothing.
 use Prim.Native.Nat.{ℕ, suc, _+_}
-use mathlib.Core.Path.{_≡_, refl, sym, ap, ap₂, _∙_}
-use mathlib.Core.Bool.{Bool, true, false, cond, not, _&&_, _||_}
+use mathlib.Core.Path.{_≡_, refl, sym, ap, ap₂, subst, _∙_}
+use mathlib.Core.Bool.{Bool, true, false, cond, not, _&&_, _||_, true≢false}
 use mathlib.Core.List.{List, [], _∷_, _++_, map, map-append, append-nil}
 use native.Mathlib.Numerals.{add-one}
 use native.Mathlib.Omega.{arith}
@@ -23,9 +23,7 @@ use Rattle.rows.specs.Rows.{isOf, sheetIn, listingOf}
 use Rattle.lines.specs.Changed.{dead}
 use Rattle.rows.specs.Changed.{listedRow}
 use Rattle.rows.specs.declared.Listing.{Listing}
-use Rattle.kinds.specs.declared.Kind.{Kind}
-use Rattle.kinds.specs.declared.Kind.the-variants.{Event, Trade, Cancel, Correction, Summary, Other}
-use Rattle.kinds.specs.Kinds.{isSummary, setsVolume, namesOld, makesNew}
+use Rattle.kinds.proofs.Laws.{summary-sets}
 use Rattle.counters.specs.Phases.{phaseOf}
 use Rattle.keys.specs.Keys.{kindIn, oldKey}
 use Rattle.clerk.specs.Messages.{eventIn, summaryIn, setsIn, namesIn, makesIn, keyIn, saleIn}
@@ -147,6 +145,12 @@ origin-none : (e : Taken) (es : List Taken) (key : List ℕ) → (makesIn (e .me
 unfolding originOf
 origin-none e es key h = rw h
 
+-- what a taken message makes, by its test
+made-is : (e : Taken) (es : List Taken) (later : List (List ℕ)) (t : Bool) → makesIn (e .message) ≡ t
+    → made e es later ≡ cond t (trade e (originOf (e ∷ es) (keyIn (e .message))) later ∷ []) []
+made-is e es later t h =
+    ap (λ (x : Bool). cond {A = List Line} x (trade e (originOf (e ∷ es) (keyIn (e .message))) later ∷ []) []) h
+
 -- the same line, found among one more line
 origin-step : (key : List ℕ) (e : Taken) (es : List Taken) (later : List (List ℕ)) (A : List Line)
     → NoRepeat (keysOf (A ++ made e es later))
@@ -176,11 +180,21 @@ origin-step key e es later A u i = go (makesIn (e .message)) refl (same (keyIn (
         either true t = refl
         either false t = named-none key [] refl ∙ sym (named-none key A t)
 
+    in-made : {ls : List Line} → made e es later ≡ ls → originIn (named key (A ++ ls)) ≡ originOf (e ∷ es) key
+        → originIn (named key (A ++ made e es later)) ≡ originOf (e ∷ es) key
+    in-made q h = ap (λ (x : List Line). originIn (named key (A ++ x))) q ∙ h
+
     go : (t : Bool) → makesIn (e .message) ≡ t → (s : Bool) → same (keyIn (e .message)) key ≡ s
         → originIn (named key (A ++ made e es later)) ≡ originOf (e ∷ es) key
-    go true t true s = rw t (hit (rw t at u) s)
-    go true t false s = rw t (ap originIn (miss s) ∙ i ∙ sym (origin-none e es key (rw (t, s))))
-    go false t s q = rw t (rw append-nil (i ∙ sym (origin-none e es key (rw t))))
+    go true t true s =
+        let one = made-is e es later true t in
+        in-made one (hit (subst (λ (x : List Line). NoRepeat (keysOf (A ++ x))) one u) s)
+    go true t false s =
+        let other = origin-none e es key (ap₂ {C = Bool} (λ x y. x && y) t s) in
+        in-made (made-is e es later true t) (ap originIn (miss s) ∙ i ∙ sym other)
+    go false t s q =
+        let other = origin-none e es key (ap (λ (x : Bool). x && same (keyIn (e .message)) key) t) in
+        in-made (made-is e es later false t) (rw append-nil (i ∙ sym other))
 
 origin-is : (key : List ℕ) (later : List (List ℕ)) (es : List Taken) → NoRepeat (keysOf (tradesBut later es))
     → originIn (named key (tradesBut later es)) ≡ originOf es key
@@ -197,43 +211,52 @@ module _ (n : ℕ) (r : Record) (es : List Taken) where
   abbrev e : Taken
   e = record { number = n; message = r }
 
-  trade-is : kindIn r ≡ Trade → trade e (originOf (e ∷ es) (keyIn r)) [] ≡ madeLine n r
+  trade-is : namesIn r ≡ false → makesIn r ≡ true → trade e (originOf (e ∷ es) (keyIn r)) [] ≡ madeLine n r
   unfolding originOf
-  trade-is q = rw (q, same-refl (oldKey r))
+  trade-is o m = rw (o, m, same-refl (oldKey r))
 
-  correction-is : kindIn r ≡ Correction → NoRepeat (keysOf (tradesOf es))
+  correction-is : namesIn r ≡ true → makesIn r ≡ true → NoRepeat (keysOf (tradesOf es))
       → trade e (originOf (e ∷ es) (keyIn r)) [] ≡ correctedLine (lineFound (tradesOf es) (lineWith (oldKey r) (tradesOf es))) r
   unfolding originOf named
-  correction-is q u =
-      let o : originOf es (oldKey r) ≡ originIn (named (oldKey r) (tradesOf es)) = sym (origin-is (oldKey r) [] es u) in
-      rw (q, same-refl (r .centre ∷ r .new .control), o)
+  correction-is o m u =
+      let p : originOf es (oldKey r) ≡ originIn (named (oldKey r) (tradesOf es)) = sym (origin-is (oldKey r) [] es u) in
+      rw (o, m, same-refl (r .centre ∷ r .new .control), p)
+
+  -- the lines after it, by its two tests
+  for : (ls : List Line) (o t : Bool) → namesIn r ≡ o → makesIn r ≡ t
+      → linesFor (kindIn r) n r ls
+      ≡ cond (o && t) (killFound ls (lineWith (oldKey r) ls) ++ (correctedLine (lineFound ls (lineWith (oldKey r) ls)) r ∷ []))
+      (cond o (killFound ls (lineWith (oldKey r) ls)) (cond t (ls ++ (madeLine n r ∷ [])) ls))
+  unfolding linesFor
+  for ls o t h g = rw (h, g)
 
   lines-step : NoRepeat (keysOf (tradesOf es)) → linesFor (kindIn r) n r (tradesOf es) ≡ tradesOf (e ∷ es)
   unfolding linesFor tradesBut
-  lines-step u = go (kindIn r) refl
+  lines-step u = go (namesIn r) refl (makesIn r) refl
     where
+      old : List Line
+      old = tradesOf es
+
       -- T and C put a line behind the others, X and C kill one
       behind : (l : Line) → namesIn r ≡ false → makesIn r ≡ true → trade e (originOf (e ∷ es) (keyIn r)) [] ≡ l
-          → tradesOf es ++ (l ∷ []) ≡ tradesOf (e ∷ es)
-      behind l o m q = rw (o, m) (ap {B = List Line} (λ x. tradesOf es ++ (x ∷ [])) (sym q))
+          → old ++ (l ∷ []) ≡ tradesOf (e ∷ es)
+      behind l o m q = rw (o, m) (ap {B = List Line} (λ x. old ++ (x ∷ [])) (sym (rw o at q)))
 
-      killed : namesIn r ≡ true → makesIn r ≡ false → killFound (tradesOf es) (lineWith (oldKey r) (tradesOf es)) ≡ tradesOf (e ∷ es)
+      killed : namesIn r ≡ true → makesIn r ≡ false → killFound old (lineWith (oldKey r) old) ≡ tradesOf (e ∷ es)
       killed o m = rw (o, m) (sym (append-nil _ ∙ cut-first (oldKey r) es u))
 
       both : (l : Line) → namesIn r ≡ true → makesIn r ≡ true → trade e (originOf (e ∷ es) (keyIn r)) [] ≡ l
-          → killFound (tradesOf es) (lineWith (oldKey r) (tradesOf es)) ++ (l ∷ []) ≡ tradesOf (e ∷ es)
-      both l o m q = rw (o, m) (sym (ap₂ {C = List Line} (λ x y. x ++ (y ∷ [])) (cut-first (oldKey r) es u) q))
+          → killFound old (lineWith (oldKey r) old) ++ (l ∷ []) ≡ tradesOf (e ∷ es)
+      both l o m q = rw (o, m) (sym (ap₂ {C = List Line} (λ x y. x ++ (y ∷ [])) (cut-first (oldKey r) es u) (rw (o, m) at q)))
 
-      neither : namesIn r ≡ false → makesIn r ≡ false → tradesOf es ≡ tradesOf (e ∷ es)
+      neither : namesIn r ≡ false → makesIn r ≡ false → old ≡ tradesOf (e ∷ es)
       neither o m = rw (o, m) (sym (append-nil _))
 
-      go : (k : Kind) → kindIn r ≡ k → linesFor k n r (tradesOf es) ≡ tradesOf (e ∷ es)
-      go Event q = neither (ap namesOld q) (ap makesNew q)
-      go Trade q = behind (madeLine n r) (ap namesOld q) (ap makesNew q) (trade-is q)
-      go Cancel q = killed (ap namesOld q) (ap makesNew q)
-      go Correction q = both _ (ap namesOld q) (ap makesNew q) (correction-is q u)
-      go Summary q = neither (ap namesOld q) (ap makesNew q)
-      go Other q = neither (ap namesOld q) (ap makesNew q)
+      go : (o : Bool) → namesIn r ≡ o → (t : Bool) → makesIn r ≡ t → linesFor (kindIn r) n r old ≡ tradesOf (e ∷ es)
+      go true o true t = for old true true o t ∙ both _ o t (correction-is o t u)
+      go true o false t = for old true false o t ∙ killed o t
+      go false o true t = for old false true o t ∙ behind (madeLine n r) o t (trade-is o t)
+      go false o false t = for old false false o t ∙ neither o t
 
   lines-count : length (tradesOf (e ∷ es)) ≡ cond (makesIn r) (length (tradesOf es) + 1) (length (tradesOf es))
   lines-count =
@@ -315,7 +338,7 @@ module _ (n : ℕ) (r : Record) (es : List Taken) where
 
   rows-step : (sheet : List Listing) → NoRepeat (symbolsIn sheet) → rowsFor (kindIn r) r (map before sheet) ≡ map behind sheet
   unfolding rowsFor
-  rows-step sheet d = go (kindIn r) refl
+  rows-step sheet d = go (summaryIn r) refl (setsIn r) refl
     where
       in-row : (change : Row → Row) → ((l : Listing)
           → (same (l .symbol) (r .symbol) ≡ true → change (before l) ≡ behind l)
@@ -323,13 +346,11 @@ module _ (n : ℕ) (r : Record) (es : List Taken) where
           → rowFound change (map before sheet) (listingOf (r .symbol) (sheetIn (map before sheet))) ≡ map behind sheet
       in-row change k = rw (sheet-is es sheet) (row-step r change before behind (λ l. k l .0) (λ l. k l .1) sheet d)
 
-      go : (k : Kind) → kindIn r ≡ k → rowsFor k r (map before sheet) ≡ map behind sheet
-      go Event q = silent (ap isSummary q) (ap setsVolume q) sheet
-      go Trade q = in-row (keeping r) (reports (ap isSummary q) (ap setsVolume q))
-      go Cancel q = in-row (keeping r) (reports (ap isSummary q) (ap setsVolume q))
-      go Correction q = in-row (keeping r) (reports (ap isSummary q) (ap setsVolume q))
-      go Summary q = in-row (summing r) (sums (ap isSummary q) (ap setsVolume q))
-      go Other q = silent (ap isSummary q) (ap setsVolume q) sheet
+      go : (j : Bool) → summaryIn r ≡ j → (t : Bool) → setsIn r ≡ t → rowsFor (kindIn r) r (map before sheet) ≡ map behind sheet
+      go true j true t = rw j (in-row (summing r) (sums j t))
+      go true j false t = absurd (true≢false (sym (summary-sets (kindIn r) j) ∙ t))
+      go false j true t = rw (j, t) (in-row (keeping r) (reports j t))
+      go false j false t = rw (j, t) (silent j t sheet)
 
 -- ---- what the clerk takes, the table does not refuse
 

@@ -21,9 +21,7 @@ use Rattle.message.proofs.Fitting.{read-fits}
 use Rattle.cells.specs.declared.Found.{Found}
 use Rattle.cells.specs.declared.Found.the-variants.{Nothing, At}
 use Rattle.cells.proofs.Slabs.{found-below}
-use Rattle.kinds.specs.declared.Kind.{Kind}
-use Rattle.kinds.specs.declared.Kind.the-variants.{Event, Trade, Cancel, Correction, Summary, Other}
-use Rattle.kinds.specs.Kinds.{isEvent, namesOld, makesNew}
+use Rattle.kinds.proofs.Laws.{event-makes, sets-event, summary-sets}
 use Rattle.lines.specs.declared.Line.{Line}
 use Rattle.lines.specs.Lines.{lineLimit, usedLines, bears, lineWith, noLine, lineIn, withLine, withDead}
 use Rattle.lines.specs.Changed.{dead}
@@ -47,7 +45,7 @@ use Rattle.book.specs.Calls.{listTable, listAnswer, withListing, listed, messag
 use Rattle.book.specs.Calls as Calls
 use Rattle.book.proofs.Demand1.{refused-keeps, answer-content}
 use Rattle.book.proofs.Touches.{touches-only, made-fits, corrected-fits}
-use Rattle.clerk.specs.Messages.{eventIn, namesIn, makesIn}
+use Rattle.clerk.specs.Messages.{eventIn, summaryIn, setsIn, namesIn, makesIn}
 use Rattle.clerk.specs.Steps.{Book, bookOf, linesFor, keeping, summing, rowsFor, taking, usingUp, content, after, next, listing}
 use Rattle.clerk.proofs.Passing.{Passed, passed, listable}
 
@@ -101,21 +99,19 @@ module _ (c : Counters) (h : Small c) where
         up-is (c .taken) (omega (arith, h .taken)),
         up-is (c .lines) (omega (arith, h .lines)),
       )
-      (go (kindIn r))
+      (go (eventIn r) refl (makesIn r) refl)
     where
       with-phase : ℕ → ℕ → Counters
       with-phase phase lines = record { wanted = c .wanted + 1; phase = phase; rows = c .rows; lines = lines; taken = c .taken + 1 }
 
-      go : (k : Kind)
-          → cond (isEvent k) (with-phase (phaseOf (r .event)) (c .lines))
-          (cond (makesNew k) (with-phase (c .phase) (c .lines + 1)) (with-phase (c .phase) (c .lines)))
-          ≡ with-phase (cond (isEvent k) (phaseOf (r .event)) (c .phase)) (cond (makesNew k) (c .lines + 1) (c .lines))
-      go Event = refl
-      go Trade = refl
-      go Cancel = refl
-      go Correction = refl
-      go Summary = refl
-      go Other = refl
+      go : (t : Bool) → eventIn r ≡ t → (u : Bool) → makesIn r ≡ u
+          → cond t (with-phase (phaseOf (r .event)) (c .lines))
+          (cond u (with-phase (c .phase) (c .lines + 1)) (with-phase (c .phase) (c .lines)))
+          ≡ with-phase (cond t (phaseOf (r .event)) (c .phase)) (cond u (c .lines + 1) (c .lines))
+      go true t true u = absurd (true≢false (sym u ∙ event-makes (kindIn r) t))
+      go true t false u = refl
+      go false t true u = refl
+      go false t false u = refl
 
 -- ---- a taken message: the lines
 
@@ -154,20 +150,18 @@ module _ (m : List ℕ) (used n : ℕ) (r : Record) (fits : RecordFits r) (small
       → usedLines (linesBy (kindIn r) m used n r (indexOf (lineWith (oldKey r) old))) (cond (makesIn r) (used + 1) used)
       ≡ linesFor (kindIn r) n r old
   unfolding linesBy linesFor
-  lines-taken room borne = go (kindIn r) room borne
+  lines-taken room borne = go (namesIn r) refl (makesIn r) refl
     where
       named : isFound (lineWith (oldKey r) old) ≡ true → (i : ℕ) × (lineWith (oldKey r) old ≡ At i)
       named h = there (lineWith (oldKey r) old) h
 
-      go : (k : Kind) → (makesNew k ≡ true → length old < lineLimit (length m))
-          → (namesOld k ≡ true → isFound (lineWith (oldKey r) old) ≡ true)
-          → usedLines (linesBy k m used n r (indexOf (lineWith (oldKey r) old))) (cond (makesNew k) (used + 1) used) ≡ linesFor k n r old
-      go Event room borne = refl
-      go Trade room borne = line-made (room refl)
-      go Cancel room borne = let f = named (borne refl) in rw (f .1) (line-dead (f .0) (f .1))
-      go Correction room borne = let f = named (borne refl) in rw (f .1) (line-corrected (f .0) (f .1) (room refl))
-      go Summary room borne = refl
-      go Other room borne = refl
+      go : (o : Bool) → namesIn r ≡ o → (t : Bool) → makesIn r ≡ t
+          → usedLines (linesBy (kindIn r) m used n r (indexOf (lineWith (oldKey r) old))) (cond (makesIn r) (used + 1) used)
+          ≡ linesFor (kindIn r) n r old
+      go true o true t = let f = named (borne o) in rw (o, t, f .1) (line-corrected (f .0) (f .1) (room t))
+      go true o false t = let f = named (borne o) in rw (o, t, f .1) (line-dead (f .0) (f .1))
+      go false o true t = rw (o, t) (line-made (room t))
+      go false o false t = rw (o, t)
 
 -- ---- a taken message: the rows
 
@@ -198,19 +192,20 @@ module _ (m : List ℕ) (used : ℕ) (r : Record) (fits : RecordFits r) where
   rows-taken : (eventIn r ≡ false → isListed (r .symbol) (sheetIn olds) ≡ true)
       → usedRows (rowsBy (kindIn r) m r (indexOf (listingOf (r .symbol) (sheetIn olds)))) used ≡ rowsFor (kindIn r) r olds
   unfolding rowsBy rowsFor
-  rows-taken h = go (kindIn r) h
+  rows-taken h = go (summaryIn r) refl (setsIn r) refl
     where
       found : isListed (r .symbol) (sheetIn olds) ≡ true → (i : ℕ) × (listingOf (r .symbol) (sheetIn olds) ≡ At i)
       found e = there (listingOf (r .symbol) (sheetIn olds)) e
 
-      go : (k : Kind) → (isEvent k ≡ false → isListed (r .symbol) (sheetIn olds) ≡ true)
-          → usedRows (rowsBy k m r (indexOf (listingOf (r .symbol) (sheetIn olds)))) used ≡ rowsFor k r olds
-      go Event h = refl
-      go Trade h = let f = found (h refl) in rw (f .1) (row-reported (f .0) (f .1))
-      go Cancel h = let f = found (h refl) in rw (f .1) (row-reported (f .0) (f .1))
-      go Correction h = let f = found (h refl) in rw (f .1) (row-reported (f .0) (f .1))
-      go Summary h = let f = found (h refl) in rw (f .1) (row-summed (f .0) (f .1))
-      go Other h = refl
+      go : (j : Bool) → summaryIn r ≡ j → (t : Bool) → setsIn r ≡ t
+          → usedRows (rowsBy (kindIn r) m r (indexOf (listingOf (r .symbol) (sheetIn olds)))) used ≡ rowsFor (kindIn r) r olds
+      go true j t v =
+          let f = found (h (sets-event (kindIn r) (summary-sets (kindIn r) j))) in
+          rw (j, f .1) (row-summed (f .0) (f .1))
+      go false j true t =
+          let f = found (h (sets-event (kindIn r) t)) in
+          rw (j, t, f .1) (row-reported (f .0) (f .1))
+      go false j false t = rw (j, t)
 
 -- ---- a delivery
 

@@ -11,7 +11,7 @@ use Rattle.records.specs.declared.Record.{Record}
 use Rattle.cells.specs.declared.Found.{Found}
 use Rattle.cells.specs.declared.Found.the-variants.{Nothing, At}
 use Rattle.kinds.specs.declared.Kind.{Kind}
-use Rattle.kinds.specs.declared.Kind.the-variants.{Event, Trade, Cancel, Correction, Summary, Other}
+use Rattle.kinds.specs.Kinds.{isCorrection, isSummary, namesOld, makesNew, setsVolume}
 use Rattle.lines.specs.declared.Line.{Line}
 use Rattle.lines.specs.Lines.{lineWith, noLine}
 use Rattle.lines.specs.Changed.{dead}
@@ -62,13 +62,14 @@ killFound ls (At i) = set ls i (dead (getD ls i noLine))
 
 -- the lines after message n of a type
 unfoldable pub linesFor : Kind → ℕ → Record → List Line → List Line
-linesFor Event n r ls = ls
-linesFor Trade n r ls = ls ++ (madeLine n r ∷ [])
-linesFor Cancel n r ls = killFound ls (lineWith (oldKey r) ls)
-linesFor Correction n r ls =
-    killFound ls (lineWith (oldKey r) ls) ++ (correctedLine (lineFound ls (lineWith (oldKey r) ls)) r ∷ [])
-linesFor Summary n r ls = ls
-linesFor Other n r ls = ls
+linesFor kind n r ls =
+    -- C names an original and makes a new line
+    cond (isCorrection kind)
+    (killFound ls (lineWith (oldKey r) ls) ++ (correctedLine (lineFound ls (lineWith (oldKey r) ls)) r ∷ []))
+    -- X makes the named line dead
+    (cond (namesOld kind) (killFound ls (lineWith (oldKey r) ls))
+    -- T adds a live line
+    (cond (makesNew kind) (ls ++ (madeLine n r ∷ [])) ls))
 
 -- what T, X, C and J leave in the row of their symbol
 abbrev pub keeping : Record → Row → Row
@@ -89,12 +90,11 @@ inItsRow change r rs = rowFound change rs (listingOf (r .symbol) (sheetIn rs))
 
 -- the rows after a message of a type
 unfoldable pub rowsFor : Kind → Record → List Row → List Row
-rowsFor Event r rs = rs
-rowsFor Trade r rs = inItsRow (keeping r) r rs
-rowsFor Cancel r rs = inItsRow (keeping r) r rs
-rowsFor Correction r rs = inItsRow (keeping r) r rs
-rowsFor Summary r rs = inItsRow (summing r) r rs
-rowsFor Other r rs = rs
+rowsFor kind r rs =
+    -- J
+    cond (isSummary kind) (inItsRow (summing r) r rs)
+    -- T, X and C
+    (cond (setsVolume kind) (inItsRow (keeping r) r rs) rs)
 
 unfoldable pub taking : Record → Book → Book
 taking r b =

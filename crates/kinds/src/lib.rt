@@ -1,6 +1,7 @@
 // A message's type. Its letter is asked here and nowhere else; whoever goes by the type goes by its `Kind`.
 ghost use mathlib.Core.Path.{_≡_};
-ghost use Rattle.kinds.specs.Kinds.{kindOf, isEvent, isCorrection, namesOld, makesNew};
+ghost use Rattle.kinds.specs.Kinds.{kindOf, kindAt, traitsOf};
+ghost use Rattle.kinds.specs.Kinds.{isEvent, isCorrection, isSummary, namesOld, makesNew, setsVolume};
 
 pub enum Kind {
     // S, system event.
@@ -31,58 +32,122 @@ pub fn kind_of(letter: u8) -> Kind
     }
 }
 
-// Whether it is an event, S.
-pub fn is_event(kind: Kind) -> bool
-    ensures { λ r. ⌜ r ≡ isEvent kind ⌝ }
+// The type at a place of the list of types: S T X C J; none past its end.
+pub fn kind_at(place: u64) -> Kind
+    ensures { λ k. ⌜ k ≡ kindAt place ⌝ }
 {
-    match kind {
-        Kind::Event => true,
-        Kind::Trade => false,
-        Kind::Cancel => false,
-        Kind::Correction => false,
-        Kind::Summary => false,
-        Kind::Other => false,
+    match place {
+        0 => Kind::Event,
+        1 => Kind::Trade,
+        2 => Kind::Cancel,
+        3 => Kind::Correction,
+        4 => Kind::Summary,
+        _ => Kind::Other,
     }
 }
 
-// Whether it is a correction, C.
+// What is asked of a type besides its letter and its layout.
+pub struct Traits {
+    // It is an event.
+    pub event: bool,
+    // It names an original.
+    pub names: bool,
+    // It makes a new line.
+    pub makes: bool,
+    // It sets the reported consolidated volume of its symbol's row.
+    pub sets: bool,
+    // It is the summary.
+    pub summary: bool,
+}
+
+// The traits of each type, in one table.
+pub fn traits_of(kind: Kind) -> Traits
+    ensures { λ r. ⌜ r ≡ traitsOf kind ⌝ }
+{
+    match kind {
+        Kind::Event => Traits {
+            event: true,
+            names: false,
+            makes: false,
+            sets: false,
+            summary: false,
+        },
+        Kind::Trade => Traits {
+            event: false,
+            names: false,
+            makes: true,
+            sets: true,
+            summary: false,
+        },
+        Kind::Cancel => Traits {
+            event: false,
+            names: true,
+            makes: false,
+            sets: true,
+            summary: false,
+        },
+        Kind::Correction => Traits {
+            event: false,
+            names: true,
+            makes: true,
+            sets: true,
+            summary: false,
+        },
+        Kind::Summary => Traits {
+            event: false,
+            names: false,
+            makes: false,
+            sets: true,
+            summary: true,
+        },
+        Kind::Other => Traits {
+            event: false,
+            names: false,
+            makes: false,
+            sets: false,
+            summary: false,
+        },
+    }
+}
+
+// Whether it is an event: S is.
+pub fn is_event(kind: Kind) -> bool
+    ensures { λ r. ⌜ r ≡ isEvent kind ⌝ }
+{
+    traits_of(kind).event
+}
+
+// Whether it is a correction: C is. It names an original and makes a new line.
 pub fn is_correction(kind: Kind) -> bool
     ensures { λ r. ⌜ r ≡ isCorrection kind ⌝ }
 {
-    match kind {
-        Kind::Event => false,
-        Kind::Trade => false,
-        Kind::Cancel => false,
-        Kind::Correction => true,
-        Kind::Summary => false,
-        Kind::Other => false,
-    }
+    names_old(kind) & makes_new(kind)
+}
+
+// Whether it is a summary: J is.
+pub fn is_summary(kind: Kind) -> bool
+    ensures { λ r. ⌜ r ≡ isSummary kind ⌝ }
+{
+    traits_of(kind).summary
 }
 
 // Whether it names an original: X and C do.
 pub fn names_old(kind: Kind) -> bool
     ensures { λ r. ⌜ r ≡ namesOld kind ⌝ }
 {
-    match kind {
-        Kind::Event => false,
-        Kind::Trade => false,
-        Kind::Cancel => true,
-        Kind::Correction => true,
-        Kind::Summary => false,
-        Kind::Other => false,
-    }
+    traits_of(kind).names
 }
 
 // Whether it makes a new line: T and C do.
 pub fn makes_new(kind: Kind) -> bool
     ensures { λ r. ⌜ r ≡ makesNew kind ⌝ }
 {
-    match kind {
-        Kind::Event => false,
-        Kind::Trade => true,
-        Kind::Cancel => false,
-        Kind::Correction => true,
-        Kind::Summary => false,
-        Kind::Other => false,
-    }
+    traits_of(kind).makes
+}
+
+// Whether it sets the reported volume: T, X, C and J do.
+pub fn sets_volume(kind: Kind) -> bool
+    ensures { λ r. ⌜ r ≡ setsVolume kind ⌝ }
+{
+    traits_of(kind).sets
 }

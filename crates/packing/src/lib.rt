@@ -30,6 +30,9 @@ pub const C_LENGTH: usize = 67;
 
 pub const J_LENGTH: usize = 34;
 
+// The longest of them.
+pub const LONGEST: usize = C_LENGTH;
+
 // Where a message has its time, its letter, and what stands behind the letter.
 const M_TIME: usize = 0;
 

@@ -51,11 +51,11 @@ module _ (kind : Kind) (r : Record) (m : List ℕ) (used : ℕ) (n : makesNew ki
   pub made-none : lineWith (newKey kind r) (usedLines m used) ≡ Nothing → (b : Bool) → leb (lineLimit (length m)) used ≡ b
       → answerOf (cond b 12 0) ≡ answerOf (madeBy (ledgerIn m used) kind r)
   unfolding madeBy
-  made-none e b f = rw (n, e, lines-full m used, f)
+  made-none e b f = rw (e, n, lines-full m used, f)
 
   pub made-found : (i : ℕ) → lineWith (newKey kind r) (usedLines m used) ≡ At i → answerOf 11 ≡ answerOf (madeBy (ledgerIn m used) kind r)
   unfolding madeBy
-  made-found i e = rw (n, e)
+  made-found i e = rw (e, n)
 
 -- ---- from what is named to what is made
 

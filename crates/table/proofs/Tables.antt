@@ -20,8 +20,8 @@ use Rattle.message.proofs.Said.{Said, unshaped, unkept, obeyed, said}
 use Rattle.cells.specs.declared.Found.{Found}
 use Rattle.cells.specs.declared.Found.the-variants.{Nothing, At}
 use Rattle.kinds.specs.declared.Kind.{Kind}
-use Rattle.kinds.specs.declared.Kind.the-variants.{Event, Trade, Cancel, Correction, Summary, Other}
 use Rattle.kinds.specs.Kinds.{isEvent, namesOld, makesNew}
+use Rattle.kinds.proofs.Laws.{event-names, event-makes, names-event}
 use Rattle.rows.specs.declared.Listing.{Listing}
 use Rattle.rows.specs.declared.Row.{Row}
 use Rattle.lines.specs.Lines.{lineLimit, usedLines, noLine}
@@ -155,21 +155,7 @@ dueTable b kind r =
 -- nothing of 8 to 12 applies to an event
 event-quiet : (l : Ledger) (kind : Kind) (r : Record) → isEvent kind ≡ true → given (tradeTable l kind r) .number ≡ 0
 unfolding tradeTable madeTable
-event-quiet l Event r e = refl
-event-quiet l Trade r e = absurd (true≢false (sym e))
-event-quiet l Cancel r e = absurd (true≢false (sym e))
-event-quiet l Correction r e = absurd (true≢false (sym e))
-event-quiet l Summary r e = absurd (true≢false (sym e))
-event-quiet l Other r e = absurd (true≢false (sym e))
-
--- what names a line is no event
-names-event : (kind : Kind) → namesOld kind ≡ true → isEvent kind ≡ false
-names-event Event e = absurd (true≢false (sym e))
-names-event Trade e = refl
-names-event Cancel e = refl
-names-event Correction e = refl
-names-event Summary e = refl
-names-event Other e = refl
+event-quiet l kind r e = rw (event-names kind e, event-makes kind e)
 
 module _ (b : Basis) (kind : Kind) (r : Record) where
   due-is : dueBy b kind r .answer ≡ answerOf (given (dueTable b kind r) .number)

@@ -1,12 +1,15 @@
--- A correction, step by step.
+-- A correction, step by step; and what a message does, test by test.
 -- Assumes nothing.
 use mathlib.Core.Path.{_≡_, ap, _∙_}
+use mathlib.Core.Bool.{true, false}
 use mathlib.Core.List.{List}
 use Prim.Native.Nat.{ℕ}
+use Rattle.kinds.specs.declared.Kind.{Kind}
+use Rattle.kinds.specs.Kinds.{isCorrection, isSummary, namesOld, makesNew, setsVolume}
 use Rattle.records.specs.declared.Record.{Record}
 use Rattle.lines.specs.declared.Line.{Line}
 use Rattle.lines.specs.Lines.{lineIn, withLine, withDead}
-use Rattle.take.specs.Taking.{correctedLine, corrected}
+use Rattle.take.specs.Taking.{madeLine, correctedLine, corrected, linesBy, reported, summarised, rowsBy}
 
 pub corrected-stored : (m mid out : List ℕ) (used k : ℕ) (r : Record) (old l : Line)
     → out ≡ withLine mid used l → mid ≡ withDead m k → l ≡ correctedLine old r → old ≡ lineIn m k
@@ -15,3 +18,33 @@ corrected-stored m mid out used k r old l e f g h =
     e
     ∙ ap (λ (x : List ℕ). withLine x used l) f
     ∙ ap (withLine (withDead m k) used) (g ∙ ap (λ (o : Line). correctedLine o r) h)
+
+module _ (kind : Kind) (m : List ℕ) (used n : ℕ) (r : Record) (k : ℕ) where
+  pub lines-corrected : isCorrection kind ≡ true → corrected m used r k ≡ linesBy kind m used n r k
+  unfolding linesBy
+  lines-corrected e = simp e
+
+  pub lines-killed : isCorrection kind ≡ false → namesOld kind ≡ true → withDead m k ≡ linesBy kind m used n r k
+  unfolding linesBy
+  lines-killed e f = simp e (simp f)
+
+  pub lines-added : namesOld kind ≡ false → makesNew kind ≡ true → withLine m used (madeLine n r) ≡ linesBy kind m used n r k
+  unfolding linesBy
+  lines-added f g = simp (f, g)
+
+  pub lines-left : namesOld kind ≡ false → makesNew kind ≡ false → m ≡ linesBy kind m used n r k
+  unfolding linesBy
+  lines-left f g = simp (f, g)
+
+module _ (kind : Kind) (m : List ℕ) (r : Record) (i : ℕ) where
+  pub rows-summed : isSummary kind ≡ true → summarised m r i ≡ rowsBy kind m r i
+  unfolding rowsBy
+  rows-summed e = simp e
+
+  pub rows-reported : isSummary kind ≡ false → setsVolume kind ≡ true → reported m r i ≡ rowsBy kind m r i
+  unfolding rowsBy
+  rows-reported e f = simp (e, f)
+
+  pub rows-left : isSummary kind ≡ false → setsVolume kind ≡ false → m ≡ rowsBy kind m r i
+  unfolding rowsBy
+  rows-left e f = simp (e, f)

@@ -2,7 +2,7 @@
 -- Assumes nothing.
 use Prim.Native.Nat.{ℕ}
 use mathlib.Core.List.{List}
-use mathlib.Core.Bool.{true}
+use mathlib.Core.Bool.{true, cond}
 use Rattle.records.specs.declared.Record.{Record}
 use Rattle.cells.specs.declared.Found.{Found}
 use Rattle.cells.specs.declared.Found.the-variants.{Nothing, At}
@@ -10,7 +10,8 @@ use Rattle.lines.specs.declared.Line.{Line}
 use Rattle.lines.specs.Lines.{lineIn, withLine, withDead}
 use Rattle.rows.specs.Rows.{withReport, withSummary}
 use Rattle.kinds.specs.declared.Kind.{Kind}
-use Rattle.kinds.specs.declared.Kind.the-variants.{Event, Trade, Cancel, Correction, Summary, Other}
+use Rattle.kinds.specs.declared.Kind.the-variants.{Correction}
+use Rattle.kinds.specs.Kinds.{isCorrection, isSummary, namesOld, makesNew, setsVolume}
 use Rattle.keys.specs.Keys.{oldKey, newKey}
 
 -- ---- lines
@@ -49,14 +50,13 @@ corrected m used r k = withLine (withDead m k) used (correctedLine (lineIn m k) 
 
 -- the lent lines after message n of a type; line k is the one that X and C name
 unfoldable pub linesBy : Kind → List ℕ → ℕ → ℕ → Record → ℕ → List ℕ
-linesBy Event m used n r k = m
--- T adds a live line
-linesBy Trade m used n r k = withLine m used (madeLine n r)
--- X makes the named line dead
-linesBy Cancel m used n r k = withDead m k
-linesBy Correction m used n r k = corrected m used r k
-linesBy Summary m used n r k = m
-linesBy Other m used n r k = m
+linesBy kind m used n r k =
+    -- C names an original and makes a new line
+    cond (isCorrection kind) (corrected m used r k)
+    -- X makes the named line dead
+    (cond (namesOld kind) (withDead m k)
+    -- T adds a live line
+    (cond (makesNew kind) (withLine m used (madeLine n r)) m))
 
 -- ---- rows
 
@@ -70,12 +70,11 @@ summarised m r i = reported (withSummary m i (r .high) (r .low)) r i
 
 -- the lent rows after a message of a type; row i is the first of its symbol
 unfoldable pub rowsBy : Kind → List ℕ → Record → ℕ → List ℕ
-rowsBy Event m r i = m
-rowsBy Trade m r i = reported m r i
-rowsBy Cancel m r i = reported m r i
-rowsBy Correction m r i = reported m r i
-rowsBy Summary m r i = summarised m r i
-rowsBy Other m r i = m
+rowsBy kind m r i =
+    -- J
+    cond (isSummary kind) (summarised m r i)
+    -- T, X and C
+    (cond (setsVolume kind) (reported m r i) m)
 
 -- the number of the cell where a search ended; 0 where nothing was found, which no taken message asks for
 abbrev pub indexOf : Found → ℕ

@@ -2,6 +2,11 @@
 use keys::new_key;
 use keys::old_key;
 use kinds::Kind;
+use kinds::is_correction;
+use kinds::is_summary;
+use kinds::makes_new;
+use kinds::names_old;
+use kinds::sets_volume;
 use lines::Line;
 use records::Record;
 ghost use mathlib.Core.Path.{_≡_};
@@ -58,13 +63,16 @@ fn correct(lines: &mut [u8], used: usize, r: Record, k: usize)
 pub fn take_lines(lines: &mut [u8], used: usize, n: u32, kind: Kind, r: Record, k: usize)
     ensures { λ _. ⌜ now (lines .exit) ≡ Taking.linesBy kind (now (lines .entry)) used n r k ⌝ }
 {
-    match kind {
-        Kind::Event => {}
-        Kind::Trade => lines::put(lines, used, made_line(n, r)),
-        Kind::Cancel => lines::kill(lines, k),
-        Kind::Correction => correct(lines, used, r, k),
-        Kind::Summary => {}
-        Kind::Other => {}
+    if is_correction(kind) {
+        correct(lines, used, r, k);
+        return;
+    }
+    if names_old(kind) {
+        lines::kill(lines, k);
+        return;
+    }
+    if makes_new(kind) {
+        lines::put(lines, used, made_line(n, r));
     }
 }
 
@@ -81,12 +89,11 @@ fn summarise(rows: &mut [u8], r: Record, i: usize)
 pub fn take_rows(rows: &mut [u8], kind: Kind, r: Record, i: usize)
     ensures { λ _. ⌜ now (rows .exit) ≡ Taking.rowsBy kind (now (rows .entry)) r i ⌝ }
 {
-    match kind {
-        Kind::Event => {}
-        Kind::Trade => rows::report(rows, i, r.consolidated),
-        Kind::Cancel => rows::report(rows, i, r.consolidated),
-        Kind::Correction => rows::report(rows, i, r.consolidated),
-        Kind::Summary => summarise(rows, r, i),
-        Kind::Other => {}
+    if is_summary(kind) {
+        summarise(rows, r, i);
+        return;
+    }
+    if sets_volume(kind) {
+        rows::report(rows, i, r.consolidated);
     }
 }

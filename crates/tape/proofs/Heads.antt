@@ -1,7 +1,7 @@
 -- What stands at a place of a tape, test by test, and what it means that a whole entry stands there.
 -- Assumes nothing.
 use mathlib.Core.Path.{_≡_, refl, ap, sym, _∙_}
-use mathlib.Core.Logic.{_⊎_, inl, inr}
+use mathlib.Core.Logic.{inl, inr}
 use mathlib.Core.Bool.{Bool, true, false, cond}
 use mathlib.Core.List.{List, [], _∷_}
 use Prim.Native.Nat.{ℕ, suc, _+_, _-_, _≤_, _<_}
@@ -12,10 +12,9 @@ use lib.Dec.{eqb, leb, lit≤}
 use lib.ListN.{length, drop, getD, length-drop, drop-of-length-le}
 use lib.Seq.{drop-cons}
 use Rattle.kinds.specs.declared.Kind.{Kind}
-use Rattle.kinds.specs.declared.Kind.the-variants.{Event, Trade, Cancel, Correction, Summary, Other}
 use Rattle.kinds.specs.Kinds.{kindOf}
-use Rattle.packing.specs.Layouts.{layoutS, layoutT, layoutC, layoutJ}
 use Rattle.packing.specs.Packing.{lengthOf}
+use Rattle.packing.proofs.Lengths.{Some, length-some}
 use Rattle.tape.specs.Entries.{listingLetter, numberBytes, messageLength, bodyLength, headOf}
 use Rattle.tape.specs.declared.entries.Head.the-variants.{Whole, Stops}
 use Rattle.tape.specs.declared.Stop.{Stop}
@@ -47,22 +46,6 @@ module _ (m : List ℕ) (at n : ℕ) (h : at < length m) (e : n ≡ bodyLength (
       rw (head-there, ne-eqb n 0 z, lt-leb n (length (drop (suc at) m)) g)
 
 -- ---- lengths
-
--- no message, or one of 6 to 67 bytes
-abbrev Some : ℕ → Type 0
-Some n = (n ≡ 0) ⊎ ((6 ≤ n) × (n ≤ 67))
-
-some : (n : ℕ) → 6 ≤ n → n ≤ 67 → Some n
-some n a b = inr (a, b)
-
-length-some : (k : Kind) → Some (lengthOf k)
-unfolding layoutS layoutT layoutC layoutJ
-length-some Event = some 6 (lit≤ tt) (lit≤ tt)
-length-some Trade = some 45 (lit≤ tt) (lit≤ tt)
-length-some Cancel = some 45 (lit≤ tt) (lit≤ tt)
-length-some Correction = some 67 (lit≤ tt) (lit≤ tt)
-length-some Summary = some 34 (lit≤ tt) (lit≤ tt)
-length-some Other = inl refl
 
 pub length-top : (k : Kind) (n : ℕ) → n ≡ lengthOf k → n ≤ 67
 length-top k n e = go (length-some k)

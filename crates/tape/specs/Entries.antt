@@ -2,15 +2,14 @@
 -- Assumes nothing.
 use Prim.Native.Nat.{ℕ, suc, _+_, _<_, _^_}
 use mathlib.Core.Path.{_≡_}
-use mathlib.Core.List.{List, [], _∷_, _++_}
+use mathlib.Core.List.{List, [], _∷_, _++_, map}
 use mathlib.Core.Bool.{Bool, false, cond, _||_}
 use lib.Dec.{eqb, leb}
 use lib.ListN.{length, drop, getD}
 use Rattle.octets.specs.Run.{part}
 use Rattle.numbers.specs.Number.{be, digits}
 use Rattle.kinds.specs.declared.Kind.{Kind}
-use Rattle.kinds.specs.declared.Kind.the-variants.{Event, Trade, Cancel, Correction, Summary}
-use Rattle.kinds.specs.Kinds.{letterOf, kindOf}
+use Rattle.kinds.specs.Kinds.{letterOf, allKinds, kindOf}
 use Rattle.packing.specs.Packing.{lengthOf}
 use Rattle.rows.specs.declared.Listing.{Listing}
 use Rattle.book.specs.State.{Arrival, arrives}
@@ -58,17 +57,12 @@ pub record EntryKind : Type 0 where
 abbrev pub messageKind : Kind → EntryKind
 messageKind k = record { letter = letterOf k; size = kindBytes + numberBytes + lengthOf k }
 
--- the six kinds: L, then S T X C J
+-- the six kinds: L, then those of the types, S T X C J
 abbrev pub entryKinds : List EntryKind
 entryKinds =
     -- kind, symbol, close
     record { letter = listingLetter; size = kindBytes + symbolBytes + closeBytes }
-    ∷ messageKind Event
-    ∷ messageKind Trade
-    ∷ messageKind Cancel
-    ∷ messageKind Correction
-    ∷ messageKind Summary
-    ∷ []
+    ∷ map messageKind allKinds
 
 -- the byte is the letter of one of these kinds
 abbrev pub isKind : ℕ → List EntryKind → Bool

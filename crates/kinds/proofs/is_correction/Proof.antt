@@ -1,60 +1,17 @@
 -- `kinds::is_correction` meets its contract.
 -- Assumes nothing.
-use mathlib.Core.Path.{ap, sym}
 use borrow.Author.Needs.{needs}
-use Rattle.kinds.specs.Kinds.{isCorrection}
 use Rattle.kinds.proofs.is_correction.Statement.{statement}
 use Rattle.kinds.proofs.is_correction.Tie as tie
 
-enum-told : tie.Need-enum-told
-enum-told c = search needs
+names-old-requires : tie.Need-names-old-requires
+names-old-requires c κs = search needs
 
-enum-told-2 : tie.Need-enum-told-2
-enum-told-2 c = search needs
-
-enum-told-3 : tie.Need-enum-told-3
-enum-told-3 c = search needs
-
-enum-told-4 : tie.Need-enum-told-4
-enum-told-4 c = search needs
-
-enum-told-5 : tie.Need-enum-told-5
-enum-told-5 c = search needs
-
-enum-told-6 : tie.Need-enum-told-6
-enum-told-6 c = search needs
+makes-new-requires : tie.Need-makes-new-requires
+makes-new-requires c κs = search needs
 
 returns : tie.Need-returns
-returns c = sym (ap isCorrection (c .enum-told .given .1))
-
-returns-2 : tie.Need-returns-2
-returns-2 c = sym (ap isCorrection (c .enum-told2 .given .1))
-
-returns-3 : tie.Need-returns-3
-returns-3 c = sym (ap isCorrection (c .enum-told3 .given .1))
-
-returns-4 : tie.Need-returns-4
-returns-4 c = sym (ap isCorrection (c .enum-told4 .given .1))
-
-returns-5 : tie.Need-returns-5
-returns-5 c = sym (ap isCorrection (c .enum-told5 .given .1))
-
-returns-6 : tie.Need-returns-6
-returns-6 c = sym (ap isCorrection (c .enum-told6 .given .1))
+returns c = simp (c .before .names-old .ensures, c .makes-new .ensures)
 
 pub is-correction-spec : {M : Type 1} → statement M
-is-correction-spec =
-    tie.close
-    (tie.spec
-    enum-told
-    enum-told-2
-    enum-told-3
-    enum-told-4
-    enum-told-5
-    enum-told-6
-    returns
-    returns-2
-    returns-3
-    returns-4
-    returns-5
-    returns-6)
+is-correction-spec = tie.close (tie.spec names-old-requires makes-new-requires returns)

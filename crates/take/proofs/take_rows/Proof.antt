@@ -1,112 +1,62 @@
 -- `take::take_rows` meets its contract.
 -- Assumes nothing.
-use mathlib.Core.Path.{_≡_, ap, sym, _∙_}
-use Rattle.kinds.specs.declared.Kind.{Kind}
-use Rattle.take.specs.Taking.{rowsBy}
+use mathlib.Core.Path.{sym, _∙_}
+use Rattle.take.proofs.Laws.{rows-summed, rows-reported, rows-left}
 use borrow.Author.Needs.{needs}
 use Rattle.take.proofs.take_rows.Statement.{statement}
 use Rattle.take.proofs.take_rows.Tie as tie
 
--- what a type does is what the message's does, if it is the message's
-by : (s : tie.Start) {k : Kind} → s .args .kind ≡ k
-    → rowsBy k (s .args .rows .now) (s .args .r) (s .args .i) ≡ rowsBy (s .args .kind) (s .args .rows .now) (s .args .r) (s .args .i)
-by s e = let a = s .args in sym (ap (λ (x : Kind). rowsBy x (a .rows .now) (a .r) (a .i)) e)
-
-enum-told : tie.Need-enum-told
-enum-told c = search needs
-
-enum-told-2 : tie.Need-enum-told-2
-enum-told-2 c = search needs
-
-report-requires : tie.Need-report-requires
-report-requires c κs = search needs
-
-enum-told-3 : tie.Need-enum-told-3
-enum-told-3 c = search needs
-
-report-requires-2 : tie.Need-report-requires-2
-report-requires-2 c κs = search needs
-
-enum-told-4 : tie.Need-enum-told-4
-enum-told-4 c = search needs
-
-report-requires-3 : tie.Need-report-requires-3
-report-requires-3 c κs = search needs
-
-enum-told-5 : tie.Need-enum-told-5
-enum-told-5 c = search needs
+is-summary-requires : tie.Need-is-summary-requires
+is-summary-requires c κs = search needs
 
 summarise-requires : tie.Need-summarise-requires
 summarise-requires c κs = search needs
 
-enum-told-6 : tie.Need-enum-told-6
-enum-told-6 c = search needs
-
-returns : tie.Need-returns
-unfolding rowsBy
-returns c = by (c .before .before .before) (c .enum-told .given .1)
-
 same-length : tie.Need-same-length
 same-length c = search needs
 
-returns-2 : tie.Need-returns-2
-unfolding rowsBy
-returns-2 c =
-    let told = c .before .before .before .before in
-    c .before .before .report .ensures ∙ by (told .before .before .before) (told .enum-told2 .given .1)
+returns : tie.Need-returns
+returns c =
+    let sums = c .before .before .before .before in
+    let a = c .before .before .before .before .before .before .before .args in
+    c .before .before .summarise .ensures
+    ∙ rows-summed (a .kind) (a .rows .now) (a .r) (a .i) (sym (sums .before .is-summary .ensures) ∙ sums .if1 .taken)
+
+sets-volume-requires : tie.Need-sets-volume-requires
+sets-volume-requires c κs = search needs
+
+report-requires : tie.Need-report-requires
+report-requires c κs = search needs
 
 same-length-2 : tie.Need-same-length-2
 same-length-2 c = search needs
 
+returns-2 : tie.Need-returns-2
+returns-2 c =
+    let sets = c .before .before .before .before in
+    let sums = sets .before .before in
+    let a = c .before .before .before .before .before .before .before .before .before .args in
+    c .before .before .report .ensures
+    ∙ rows-reported (a .kind) (a .rows .now) (a .r) (a .i) (sym (sums .before .is-summary .ensures) ∙ sums .if1 .left)
+    (sym (sets .before .sets-volume .ensures) ∙ sets .if2 .taken)
+
 returns-3 : tie.Need-returns-3
-unfolding rowsBy
 returns-3 c =
-    let told = c .before .before .before .before in
-    c .before .before .report2 .ensures ∙ by (told .before .before .before) (told .enum-told3 .given .1)
-
-same-length-3 : tie.Need-same-length-3
-same-length-3 c = search needs
-
-returns-4 : tie.Need-returns-4
-unfolding rowsBy
-returns-4 c =
-    let told = c .before .before .before .before in
-    c .before .before .report3 .ensures ∙ by (told .before .before .before) (told .enum-told4 .given .1)
-
-same-length-4 : tie.Need-same-length-4
-same-length-4 c = search needs
-
-returns-5 : tie.Need-returns-5
-unfolding rowsBy
-returns-5 c =
-    let told = c .before .before .before .before in
-    c .before .before .summarise .ensures ∙ by (told .before .before .before) (told .enum-told5 .given .1)
-
-returns-6 : tie.Need-returns-6
-unfolding rowsBy
-returns-6 c = by (c .before .before .before) (c .enum-told6 .given .1)
+    let sums = c .before .before in
+    let a = c .before .before .before .before .before .args in
+    rows-left (a .kind) (a .rows .now) (a .r) (a .i) (sym (sums .before .is-summary .ensures) ∙ sums .if1 .left)
+    (sym (c .before .sets-volume .ensures) ∙ c .if2 .left)
 
 pub take-rows-spec : {M : Type 1} → statement M
 take-rows-spec =
     tie.close
     (tie.spec
-    enum-told
-    enum-told-2
-    report-requires
-    enum-told-3
-    report-requires-2
-    enum-told-4
-    report-requires-3
-    enum-told-5
+    is-summary-requires
     summarise-requires
-    enum-told-6
-    returns
     same-length
-    returns-2
+    returns
+    sets-volume-requires
+    report-requires
     same-length-2
-    returns-3
-    same-length-3
-    returns-4
-    same-length-4
-    returns-5
-    returns-6)
+    returns-2
+    returns-3)

@@ -1,10 +1,10 @@
--- `kinds::is_event` meets its contract.
+-- `kinds::traits_of` meets its contract.
 -- Assumes nothing.
 use mathlib.Core.Path.{ap, sym}
 use borrow.Author.Needs.{needs}
-use Rattle.kinds.specs.Kinds.{isEvent}
-use Rattle.kinds.proofs.is_event.Statement.{statement}
-use Rattle.kinds.proofs.is_event.Tie as tie
+use Rattle.kinds.specs.Kinds.{traitsOf}
+use Rattle.kinds.proofs.traits_of.Statement.{statement}
+use Rattle.kinds.proofs.traits_of.Tie as tie
 
 enum-told : tie.Need-enum-told
 enum-told c = search needs
@@ -25,25 +25,25 @@ enum-told-6 : tie.Need-enum-told-6
 enum-told-6 c = search needs
 
 returns : tie.Need-returns
-returns c = sym (ap isEvent (c .enum-told .given .1))
+returns c = sym (ap traitsOf (c .enum-told .given .1))
 
 returns-2 : tie.Need-returns-2
-returns-2 c = sym (ap isEvent (c .enum-told2 .given .1))
+returns-2 c = sym (ap traitsOf (c .enum-told2 .given .1))
 
 returns-3 : tie.Need-returns-3
-returns-3 c = sym (ap isEvent (c .enum-told3 .given .1))
+returns-3 c = sym (ap traitsOf (c .enum-told3 .given .1))
 
 returns-4 : tie.Need-returns-4
-returns-4 c = sym (ap isEvent (c .enum-told4 .given .1))
+returns-4 c = sym (ap traitsOf (c .enum-told4 .given .1))
 
 returns-5 : tie.Need-returns-5
-returns-5 c = sym (ap isEvent (c .enum-told5 .given .1))
+returns-5 c = sym (ap traitsOf (c .enum-told5 .given .1))
 
 returns-6 : tie.Need-returns-6
-returns-6 c = sym (ap isEvent (c .enum-told6 .given .1))
+returns-6 c = sym (ap traitsOf (c .enum-told6 .given .1))
 
-pub is-event-spec : {M : Type 1} → statement M
-is-event-spec =
+pub traits-of-spec : {M : Type 1} → statement M
+traits-of-spec =
     tie.close
     (tie.spec
     enum-told
