@@ -18,8 +18,7 @@ use Rattle.message.specs.Reader.{readOf}
 use Rattle.rows.specs.declared.Listing.{Listing}
 use Rattle.rows.specs.Rows.{rowLimit}
 use Rattle.numbers.proofs.Laws.{up-is}
-use Rattle.counters.specs.declared.Counters.{Counters}
-use Rattle.counters.specs.Counting.{lastNumber}
+use Rattle.counters.specs.Counting.{lastNumber, withWanted}
 use Rattle.counters.proofs.Sound.{sound-gives, sound-exactly}
 use Rattle.table.specs.Table.{numberTable, contentTable}
 use Rattle.table.proofs.Tables.{Wanted, number-content, number-refused, number-taken}
@@ -89,11 +88,6 @@ module _ (s : State) where
       }
 
   -- what each call leaves when it refuses
-  -- the counters with another wanted number
-  abbrev pub withWanted : ℕ → Counters
-  withWanted n =
-      let c = s .counters in record { wanted = n; phase = c .phase; rows = c .rows; lines = c .lines; taken = c .taken }
-
   pub record RefusedKeeps : Type 0 where
     pub list : (l : Listing) → (listed s l .answer ≡ 0 → ⊥) → listed s l .state ≡ s
     pub deliver : (a : Arrival) → (delivered s a .answer ≡ 0 → ⊥)
@@ -102,7 +96,7 @@ module _ (s : State) where
     pub used : (a : Arrival) → soundIn s ≡ true → a .number ≡ wantedIn s → a .number ≤ lastNumber
         → (delivered s a .answer ≡ 0 → ⊥) → delivered s a .state ≡ spent s
     -- which in a sound book is: the wanted number up by one, all else equal
-    pub byOne : soundIn s ≡ true → spent s ≡ record { counters = withWanted (wantedIn s + 1); rows = s .rows; lines = s .lines }
+    pub byOne : soundIn s ≡ true → spent s ≡ record { counters = withWanted (wantedIn s + 1) (s .counters); rows = s .rows; lines = s .lines }
     -- at any other number, or in an unsound book: refused, and nothing changes
     pub unused : (a : Arrival) → (soundIn s ≡ true → a .number ≡ wantedIn s → a .number ≤ lastNumber → ⊥)
         → (delivered s a .answer ≡ 0 → ⊥) × (delivered s a .state ≡ s)
