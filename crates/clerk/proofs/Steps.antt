@@ -36,7 +36,8 @@ use Rattle.rows.specs.Changed.{listedRow, summarised, ListingFits}
 use Rattle.rows.proofs.Slabs.{rows-put, rows-report, rows-summary, row-length, used-rows-length}
 use Rattle.counters.specs.declared.Counters.{Counters}
 use Rattle.counters.specs.Phases.{phaseOf, lastPhase}
-use Rattle.counters.specs.Counting.{lastNumber, freshCounters, usedUp, oneRowMore, takenBy, sound}
+use Rattle.counters.specs.Counting.{lastNumber, freshCounters, withWanted, withPhase, withRows, withLines, withTaken, usedUp, oneRowMore}
+use Rattle.counters.specs.Counting.{takenBy, sound}
 use Rattle.counters.proofs.Sound.{Within, sound-gives}
 use Rattle.keys.specs.Keys.{kindIn, oldKey}
 use Rattle.table.specs.Table.{isFound, isListed, numberTable}
@@ -59,16 +60,14 @@ there (At i) e = (i, refl)
 
 -- ---- a taken message: the counters
 
+-- one number more used up and one message more taken, with that phase and so many lines
+abbrev one-taken : ℕ → ℕ → Counters → Counters
+one-taken phase lines c = withWanted (c .wanted + 1) (withPhase phase (withLines lines (withTaken (c .taken + 1) c)))
+
 -- what becomes of each counter of a sound book
 abbrev moved : Record → Counters → Counters
 moved r c =
-    record {
-      wanted = c .wanted + 1;
-      phase = cond (eventIn r) (phaseOf (r .event)) (c .phase);
-      rows = c .rows;
-      lines = cond (makesIn r) (c .lines + 1) (c .lines);
-      taken = c .taken + 1;
-    }
+    one-taken (cond (eventIn r) (phaseOf (r .event)) (c .phase)) (cond (makesIn r) (c .lines + 1) (c .lines)) c
 
 -- a word of the counters of a sound book is far from the greatest number
 record Small (c : Counters) : Type 0 where
@@ -87,10 +86,10 @@ small-is c rows lines w =
     }
 
 module _ (c : Counters) (h : Small c) where
-  used-up-is : usedUp c ≡ record { wanted = c .wanted + 1; phase = c .phase; rows = c .rows; lines = c .lines; taken = c .taken }
+  used-up-is : usedUp c ≡ withWanted (c .wanted + 1) c
   used-up-is = rw (up-is (c .wanted) (omega (arith, h .wanted)))
 
-  one-row-is : oneRowMore c ≡ record { wanted = c .wanted; phase = c .phase; rows = c .rows + 1; lines = c .lines; taken = c .taken }
+  one-row-is : oneRowMore c ≡ withRows (c .rows + 1) c
   one-row-is = rw (up-is (c .rows) (omega (arith, h .rows)))
 
   taken-is : (r : Record) → takenBy (kindIn r) (r .event) c ≡ moved r c
@@ -103,13 +102,10 @@ module _ (c : Counters) (h : Small c) where
       )
       (go (kindIn r))
     where
-      with-phase : ℕ → ℕ → Counters
-      with-phase phase lines = record { wanted = c .wanted + 1; phase = phase; rows = c .rows; lines = lines; taken = c .taken + 1 }
-
       go : (k : Kind)
-          → cond (isEvent k) (with-phase (phaseOf (r .event)) (c .lines))
-          (cond (makesNew k) (with-phase (c .phase) (c .lines + 1)) (with-phase (c .phase) (c .lines)))
-          ≡ with-phase (cond (isEvent k) (phaseOf (r .event)) (c .phase)) (cond (makesNew k) (c .lines + 1) (c .lines))
+          → cond (isEvent k) (one-taken (phaseOf (r .event)) (c .lines) c)
+          (cond (makesNew k) (one-taken (c .phase) (c .lines + 1) c) (one-taken (c .phase) (c .lines) c))
+          ≡ one-taken (cond (isEvent k) (phaseOf (r .event)) (c .phase)) (cond (makesNew k) (c .lines + 1) (c .lines)) c
       go Event = refl
       go Trade = refl
       go Cancel = refl

@@ -5,6 +5,7 @@ use mathlib.Core.Path.{_≡_, sym}
 use native.Mathlib.Omega.{arith}
 use Rattle.message.specs.Layouts.{layoutS, layoutT, layoutC, layoutJ}
 use Rattle.records.specs.Packed.{packed}
+use Rattle.words.specs.Words.{counterWords}
 use Rattle.cabinet.specs.Sizes.{sizeOf}
 use Rattle.cabinet.proofs.Sizes.{size-none}
 use Rattle.cabinet.proofs.sorundappa_size.Statement.{statement}
@@ -35,7 +36,7 @@ unfolding sizeOf packed
 returns-6 c = rw (c .match .keys6)
 
 returns-7 : tie.Need-returns-7
-unfolding sizeOf
+unfolding sizeOf counterWords
 returns-7 c = rw (c .match .keys7)
 
 returns-8 : tie.Need-returns-8
