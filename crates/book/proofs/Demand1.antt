@@ -23,7 +23,7 @@ use Rattle.counters.proofs.Sound.{sound-gives, sound-exactly}
 use Rattle.table.specs.Table.{numberTable, contentTable}
 use Rattle.table.proofs.Tables.{Wanted, number-content, number-refused, number-taken}
 use Rattle.show.specs.Showing.{nothingShown}
-use Rattle.book.specs.State.{State, Arrival, wantedIn, sheetOf, basisOf, soundIn, UnsoundIn}
+use Rattle.book.specs.State.{State, withCounters, Arrival, wantedIn, sheetOf, basisOf, soundIn, UnsoundIn}
 use Rattle.book.specs.Calls.{listTable, listCases, listAnswer, listed, numberCases, messageCases, messageGiven, spent, after}
 use Rattle.book.specs.Calls.{delivered, rowTable, rowCases, rowAnswer, shown}
 
@@ -96,7 +96,7 @@ module _ (s : State) where
     pub used : (a : Arrival) → soundIn s ≡ true → a .number ≡ wantedIn s → a .number ≤ lastNumber
         → (delivered s a .answer ≡ 0 → ⊥) → delivered s a .state ≡ spent s
     -- which in a sound book is: the wanted number up by one, all else equal
-    pub byOne : soundIn s ≡ true → spent s ≡ record { counters = withWanted (wantedIn s + 1) (s .counters); rows = s .rows; lines = s .lines }
+    pub byOne : soundIn s ≡ true → spent s ≡ withCounters (withWanted (wantedIn s + 1) (s .counters)) s
     -- at any other number, or in an unsound book: refused, and nothing changes
     pub unused : (a : Arrival) → (soundIn s ≡ true → a .number ≡ wantedIn s → a .number ≤ lastNumber → ⊥)
         → (delivered s a .answer ≡ 0 → ⊥) × (delivered s a .state ≡ s)

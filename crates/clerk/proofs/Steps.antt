@@ -36,7 +36,7 @@ use Rattle.rows.specs.Changed.{listedRow, summarised, ListingFits}
 use Rattle.rows.proofs.Slabs.{rows-put, rows-report, rows-summary, row-length, used-rows-length}
 use Rattle.counters.specs.declared.Counters.{Counters}
 use Rattle.counters.specs.Phases.{phaseOf, lastPhase}
-use Rattle.counters.specs.Counting.{lastNumber, freshCounters, withWanted, withPhase, withRows, withLines, withTaken, usedUp, oneRowMore}
+use Rattle.counters.specs.Counting.{lastNumber, freshCounters, withWanted, withPhase, withRowCount, withLineCount, withTaken, usedUp, oneRowMore}
 use Rattle.counters.specs.Counting.{takenBy, sound}
 use Rattle.counters.proofs.Sound.{Within, sound-gives}
 use Rattle.keys.specs.Keys.{kindIn, oldKey}
@@ -62,7 +62,7 @@ there (At i) e = (i, refl)
 
 -- one number more used up and one message more taken, with that phase and so many lines
 abbrev one-taken : ℕ → ℕ → Counters → Counters
-one-taken phase lines c = withWanted (c .wanted + 1) (withPhase phase (withLines lines (withTaken (c .taken + 1) c)))
+one-taken phase lines c = withWanted (c .wanted + 1) (withPhase phase (withLineCount lines (withTaken (c .taken + 1) c)))
 
 -- what becomes of each counter of a sound book
 abbrev moved : Record → Counters → Counters
@@ -89,7 +89,7 @@ module _ (c : Counters) (h : Small c) where
   used-up-is : usedUp c ≡ withWanted (c .wanted + 1) c
   used-up-is = rw (up-is (c .wanted) (omega (arith, h .wanted)))
 
-  one-row-is : oneRowMore c ≡ withRows (c .rows + 1) c
+  one-row-is : oneRowMore c ≡ withRowCount (c .rows + 1) c
   one-row-is = rw (up-is (c .rows) (omega (arith, h .rows)))
 
   taken-is : (r : Record) → takenBy (kindIn r) (r .event) c ≡ moved r c

@@ -28,11 +28,11 @@ withWanted n c = record { wanted = n; phase = c .phase; rows = c .rows; lines = 
 abbrev pub withPhase : ℕ → Counters → Counters
 withPhase n c = record { wanted = c .wanted; phase = n; rows = c .rows; lines = c .lines; taken = c .taken }
 
-abbrev pub withRows : ℕ → Counters → Counters
-withRows n c = record { wanted = c .wanted; phase = c .phase; rows = n; lines = c .lines; taken = c .taken }
+abbrev pub withRowCount : ℕ → Counters → Counters
+withRowCount n c = record { wanted = c .wanted; phase = c .phase; rows = n; lines = c .lines; taken = c .taken }
 
-abbrev pub withLines : ℕ → Counters → Counters
-withLines n c = record { wanted = c .wanted; phase = c .phase; rows = c .rows; lines = n; taken = c .taken }
+abbrev pub withLineCount : ℕ → Counters → Counters
+withLineCount n c = record { wanted = c .wanted; phase = c .phase; rows = c .rows; lines = n; taken = c .taken }
 
 abbrev pub withTaken : ℕ → Counters → Counters
 withTaken n c = record { wanted = c .wanted; phase = c .phase; rows = c .rows; lines = c .lines; taken = n }
@@ -50,10 +50,10 @@ abbrev pub countedTaken : Counters → Counters
 countedTaken c = withTaken (up (c .taken)) c
 
 abbrev pub oneRowMore : Counters → Counters
-oneRowMore c = withRows (up (c .rows)) c
+oneRowMore c = withRowCount (up (c .rows)) c
 
 abbrev pub oneLineMore : Counters → Counters
-oneLineMore c = withLines (up (c .lines)) c
+oneLineMore c = withLineCount (up (c .lines)) c
 
 -- a message of a type taken: its number used up and it counted; an event begins its phase, and T and C use a line
 unfoldable pub takenBy : Kind → ℕ → Counters → Counters
