@@ -18,12 +18,12 @@ use Rattle.feed.proofs.feed.Reads as feed-reads
 use Rattle.feed.proofs.feed.Kinds as feed-kinds
 
 -- two calls that came to the same told the same
-told-same : (r r′ : Fed) (rows lines piece rows′ lines′ piece′ : List ℕ) (f : Feeding)
-    → cameOf r rows lines piece ≡ f → cameOf r′ rows′ lines′ piece′ ≡ f → r ≡ r′
-told-same r r′ rows lines piece rows′ lines′ piece′ f h h′ =
+told-same : (r r′ : Fed) (s s′ : State) (piece piece′ : List ℕ) (f : Feeding) → cameOf r s piece ≡ f → cameOf r′ s′ piece′ ≡ f
+    → r .counters ≡ s .counters → s′ .counters ≡ r′ .counters → r ≡ r′
+told-same r r′ s s′ piece piece′ f h h′ l l′ =
     let e = h ∙ sym h′ in
     same (r .counters) (r .used) (r .held) (r .stop)
-    (ap (λ (x : Feeding). x .play .state .counters) e)
+    (l ∙ ap (λ (x : Feeding). x .play .state .counters) e ∙ l′)
     (ap (λ (x : Feeding). x .play .used) e)
     (ap (λ (x : Feeding). x .held) e)
     (ap (λ (x : Feeding). x .play .stop) e)
@@ -45,14 +45,14 @@ module _ (κs : Lfts 3) (a : ArgsD feed.signature κs) where
 
   -- what comes of it
   abbrev pub feedLeft : Fed → AtExit (endedOf 3 feed-kinds.ps feed-kinds.r) κs → Feeding
-  feedLeft r s = cameOf r (now (s .1 .0)) (now (s .1 .1 .0)) (now (s .1 .1 .1 .0))
+  feedLeft r s = cameOf r (lent (r .counters) (now (s .1 .0)) (now (s .1 .1 .0))) (now (s .1 .1 .1 .0))
 
   pub feed-one : (r r′ : Fed) (s s′ : AtExit (endedOf 3 feed-kinds.ps feed-kinds.r) κs)
       → feed-reads.Learnt κs a r s → feed-reads.Learnt κs a r′ s′
       → (r ≡ r′) × (now (s .1 .0) ≡ now (s′ .1 .0)) × (now (s .1 .1 .0) ≡ now (s′ .1 .1 .0)) × (now (s .1 .1 .1 .0) ≡ now (s′ .1 .1 .1 .0))
   feed-one r r′ s s′ h h′ =
       let e = h ∙ sym h′ in (
-        told-same r r′ _ _ _ _ _ _ _ h h′,
+        told-same r r′ _ _ _ _ _ h h′ refl refl,
         ap (λ (x : Feeding). x .play .state .rows) e,
         ap (λ (x : Feeding). x .play .state .lines) e,
         ap (λ (x : Feeding). x .piece) e,
