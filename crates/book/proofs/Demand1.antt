@@ -90,8 +90,8 @@ module _ (s : State) where
   -- what each call leaves when it refuses
   pub record RefusedKeeps : Type 0 where
     pub list : (l : Listing) → (listed s l .answer ≡ 0 → ⊥) → listed s l .state ≡ s
-    pub deliver : (a : Arrival) → (delivered s a .answer ≡ 0 → ⊥)
-        → (delivered s a .state .rows ≡ s .rows) × (delivered s a .state .lines ≡ s .lines)
+    -- every room stays: but for the counters the state is the one that was lent
+    pub deliver : (a : Arrival) → (delivered s a .answer ≡ 0 → ⊥) → withCounters (s .counters) (delivered s a .state) ≡ s
     -- refused at the wanted number, in a sound book: the number is used up, all else stays
     pub used : (a : Arrival) → soundIn s ≡ true → a .number ≡ wantedIn s → a .number ≤ lastNumber
         → (delivered s a .answer ≡ 0 → ⊥) → delivered s a .state ≡ spent s
@@ -151,13 +151,12 @@ module _ (s : State) where
         ∙ after-refused (given (numberCases s (a .number))) f
         ∙ ap (λ (u : Bool). cond u (spent s) s) (number-keeps f)
 
-  -- what is left of a room that a refusal keeps, whether or not it uses up the number
-  kept-room : (room : State → List ℕ) → room (spent s) ≡ room s → (r : Record) (g : Case) → (g .number ≡ 0 → ⊥)
-      → room (after s r g) ≡ room s
-  kept-room room e r g z = rw (ne-eqb (g .number) 0 z) (go (g .uses))
+  -- a refusal keeps every room, whether or not it uses up the number
+  kept-rooms : (r : Record) (g : Case) → (g .number ≡ 0 → ⊥) → withCounters (s .counters) (after s r g) ≡ s
+  kept-rooms r g z = rw (ne-eqb (g .number) 0 z) (go (g .uses))
     where
-      go : (u : Bool) → room (cond u (spent s) s) ≡ room s
-      go true = e
+      go : (u : Bool) → withCounters (s .counters) (cond u (spent s) s) ≡ s
+      go true = refl
       go false = refl
 
   pub refused-keeps : RefusedKeeps
@@ -165,11 +164,7 @@ module _ (s : State) where
   refused-keeps =
       record {
         list = λ l z. rw (ne-eqb (listAnswer s l) 0 z);
-        deliver =
-            λ a z. (
-              kept-room (λ t. t .rows) refl (readOf (a .message) .found) (messageGiven s a) z,
-              kept-room (λ t. t .lines) refl (readOf (a .message) .found) (messageGiven s a) z,
-            );
+        deliver = λ a z. kept-rooms (readOf (a .message) .found) (messageGiven s a) z;
         used = λ a h w f z. used-is a (wanted (a .number) h w f) z;
         byOne =
             λ h.

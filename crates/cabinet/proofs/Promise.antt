@@ -20,6 +20,7 @@ use Rattle.message.proofs.Fitting.{read-fits}
 use Rattle.layouts.proofs.Demand2.{read-again}
 use Rattle.records.specs.Packed.{recordOf}
 use Rattle.records.proofs.Again.{record-again}
+use Rattle.book.specs.State.{State}
 use Rattle.cabinet.specs.Crossing.{Crossed}
 use Rattle.cabinet.proofs.sorundappa_start as start
 use Rattle.cabinet.proofs.sorundappa_start.Reads as start-reads
@@ -49,14 +50,15 @@ pub list-one : (κs : Lfts 4) (a : ArgsD list.signature κs) (r r′ : ℕ) (s s
     → list-reads.Learnt κs a r s → list-reads.Learnt κs a r′ s′ → (r ≡ r′) × (now (s .0) ≡ now (s′ .0)) × (now (s .1 .0) ≡ now (s′ .1 .0))
 list-one κs a r r′ s s′ h h′ =
     let e = h ∙ sym h′ in
-    (ap (λ (x : Crossed). x .answer) e, ap (λ (x : Crossed). x .words) e, ap (λ (x : Crossed). x .rows) e)
+    (ap (λ (x : Crossed). x .answer) e, ap (λ (x : Crossed). x .words) e, ap (λ (x : Crossed). x .state .rows) e)
 
 pub deliver-one : (κs : Lfts 4) (a : ArgsD deliver.signature κs) (r r′ : ℕ) (s s′ : AtExit (endedOf 4 deliver-kinds.ps deliver-kinds.r) κs)
     → deliver-reads.Learnt κs a r s → deliver-reads.Learnt κs a r′ s′
     → (r ≡ r′) × (now (s .0) ≡ now (s′ .0)) × (now (s .1 .0) ≡ now (s′ .1 .0)) × (now (s .1 .1 .0) ≡ now (s′ .1 .1 .0))
 deliver-one κs a r r′ s s′ h h′ =
     let e = h ∙ sym h′ in
-    (ap (λ (x : Crossed). x .answer) e, ap (λ (x : Crossed). x .words) e, ap (λ (x : Crossed). x .rows) e, ap (λ (x : Crossed). x .lines) e)
+    let left = ap (λ (x : Crossed). x .state) e in
+    (ap (λ (x : Crossed). x .answer) e, ap (λ (x : Crossed). x .words) e, ap (λ (t : State). t .rows) left, ap (λ (t : State). t .lines) left)
 
 pub row-one : (κs : Lfts 5) (a : ArgsD row.signature κs) (r r′ : ℕ) (s s′ : AtExit (endedOf 5 row-kinds.ps row-kinds.r) κs)
     → row-reads.Learnt κs a r s → row-reads.Learnt κs a r′ s′ → (r ≡ r′) × (now (s .1 .1 .1 .1 .0) ≡ now (s′ .1 .1 .1 .1 .0))
