@@ -16,8 +16,9 @@ use Rattle.cabinet.specs.Crossing.{crossed, crossing}
 -- an answer and words that are those of an outcome, with its rooms, are that outcome as it crosses
 told-crosses : (o : Outcome) (a : ℕ) (w : List ℕ) → a ≡ o .answer → w ≡ counterWords (o .state .counters)
     → crossed a w (withCounters (countersOf w) (o .state)) ≡ crossing o
-told-crosses o a w n p = rw (n, p) (ap (λ (c : Counters). crossed (o .answer) (counterWords (o .state .counters)) (withCounters c (o .state)))
-    (counters-again (o .state .counters)))
+told-crosses o a w n p =
+    let words = counterWords (o .state .counters) in
+    rw (n, p) (ap (λ (c : Counters). crossed (o .answer) words (withCounters c (o .state))) (counters-again (o .state .counters)))
 
 -- a call was lent the state s, whose counters are these
 module _ (k : Counters) (s : State) (e : s .counters ≡ k) where

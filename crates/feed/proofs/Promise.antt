@@ -32,7 +32,7 @@ told-same r r′ s s′ piece piece′ f h h′ l l′ =
         → record { counters = c; used = n; held = k; stop = w } ≡ r′
     same c n k w e f g q = rw (e, f, g, q)
 
-module _ (κs : Lfts 3) (a : ArgsD feed.signature κs) where
+module _ (κs : Lfts (feed.signature .lifetimes)) (a : ArgsD feed.signature κs) where
   -- what the call is lent, and what it is given: how many bytes to play, and the piece
   abbrev pub feedFrom : State
   feedFrom = lent (a .0) (now (a .1 .0)) (now (a .1 .1 .0))
@@ -44,10 +44,10 @@ module _ (κs : Lfts 3) (a : ArgsD feed.signature κs) where
   feedCount = a .1 .1 .1 .1 .0
 
   -- what comes of it
-  abbrev pub feedLeft : Fed → AtExit (endedOf 3 feed-kinds.ps feed-kinds.r) κs → Feeding
+  abbrev pub feedLeft : Fed → AtExit (endedOf (feed.signature .lifetimes) feed-kinds.ps feed-kinds.r) κs → Feeding
   feedLeft r s = cameOf r (lent (r .counters) (now (s .1 .0)) (now (s .1 .1 .0))) (now (s .1 .1 .1 .0))
 
-  pub feed-one : (r r′ : Fed) (s s′ : AtExit (endedOf 3 feed-kinds.ps feed-kinds.r) κs)
+  pub feed-one : (r r′ : Fed) (s s′ : AtExit (endedOf (feed.signature .lifetimes) feed-kinds.ps feed-kinds.r) κs)
       → feed-reads.Learnt κs a r s → feed-reads.Learnt κs a r′ s′
       → (r ≡ r′) × (now (s .1 .0) ≡ now (s′ .1 .0)) × (now (s .1 .1 .0) ≡ now (s′ .1 .1 .0)) × (now (s .1 .1 .1 .0) ≡ now (s′ .1 .1 .1 .0))
   feed-one r r′ s s′ h h′ =
@@ -59,6 +59,6 @@ module _ (κs : Lfts 3) (a : ArgsD feed.signature κs) where
       )
 
   -- what a caller is told, and nothing else
-  pub feed-says : (r : Fed) (s : AtExit (endedOf 3 feed-kinds.ps feed-kinds.r) κs)
+  pub feed-says : (r : Fed) (s : AtExit (endedOf (feed.signature .lifetimes) feed-kinds.ps feed-kinds.r) κs)
       → feed-reads.Learnt κs a r s ≡ (feedLeft r s ≡ fed feedFrom feedCount feedPiece)
   feed-says r s = refl

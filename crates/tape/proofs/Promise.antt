@@ -32,7 +32,7 @@ told-same r r′ s s′ p h h′ l l′ =
         → record { counters = c; used = n; stop = w } ≡ r′
     same c n w e f g = rw (e, f, g)
 
-module _ (κs : Lfts 3) (a : ArgsD play.signature κs) where
+module _ (κs : Lfts (play.signature .lifetimes)) (a : ArgsD play.signature κs) where
   -- what the call is lent, and what it is given
   abbrev pub playFrom : State
   playFrom = lent (a .0) (now (a .1 .0)) (now (a .1 .1 .0))
@@ -41,16 +41,16 @@ module _ (κs : Lfts 3) (a : ArgsD play.signature κs) where
   playGiven = now (a .1 .1 .1 .0)
 
   -- what comes of it
-  abbrev pub playLeft : Played → AtExit (endedOf 3 play-kinds.ps play-kinds.r) κs → Play
+  abbrev pub playLeft : Played → AtExit (endedOf (play.signature .lifetimes) play-kinds.ps play-kinds.r) κs → Play
   playLeft r s = came r (lent (r .counters) (now (s .1 .0)) (now (s .1 .1 .0)))
 
-  pub play-one : (r r′ : Played) (s s′ : AtExit (endedOf 3 play-kinds.ps play-kinds.r) κs)
+  pub play-one : (r r′ : Played) (s s′ : AtExit (endedOf (play.signature .lifetimes) play-kinds.ps play-kinds.r) κs)
       → play-reads.Learnt κs a r s → play-reads.Learnt κs a r′ s′
       → (r ≡ r′) × (now (s .1 .0) ≡ now (s′ .1 .0)) × (now (s .1 .1 .0) ≡ now (s′ .1 .1 .0))
   play-one r r′ s s′ h h′ =
       (told-same r r′ _ _ _ h h′ refl refl, ap (λ (x : Play). x .state .rows) (h ∙ sym h′), ap (λ (x : Play). x .state .lines) (h ∙ sym h′))
 
   -- what a caller is told, and nothing else
-  pub play-says : (r : Played) (s : AtExit (endedOf 3 play-kinds.ps play-kinds.r) κs)
+  pub play-says : (r : Played) (s : AtExit (endedOf (play.signature .lifetimes) play-kinds.ps play-kinds.r) κs)
       → play-reads.Learnt κs a r s ≡ (playLeft r s ≡ played playFrom playGiven)
   play-says r s = refl

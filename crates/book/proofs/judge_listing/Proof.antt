@@ -27,7 +27,8 @@ is-text-requires c κs = search needs
 returns : tie.Need-returns
 returns c =
     let kept = c .before .before in
-    list-late _ _ (sym (asked kept .before .is-sound .ensures) ∙ asked kept .if1 .taken) (as-promised _ _ _ _ (kept .before .before .is-text .ensures) (kept .if2 .taken)) (c .if3 .taken)
+    list-late _ _ (sym (asked kept .before .is-sound .ensures) ∙ asked kept .if1 .taken)
+    (as-promised _ _ _ _ (kept .before .before .is-text .ensures) (kept .if2 .taken)) (c .if3 .taken)
 
 find-requires : tie.Need-find-requires
 find-requires c κs = search needs
@@ -45,7 +46,8 @@ returns-2 : tie.Need-returns-2
 returns-2 c =
     let looked = c .before .before .before .before .before in
     let kept = looked .before .before .before in
-    list-new _ _ (sym (asked kept .before .is-sound .ensures) ∙ asked kept .if1 .taken) (as-promised _ _ _ _ (kept .before .before .is-text .ensures) (kept .if2 .taken)) (looked .before .if3 .left)
+    list-new _ _ (sym (asked kept .before .is-sound .ensures) ∙ asked kept .if1 .taken)
+    (as-promised _ _ _ _ (kept .before .before .is-text .ensures) (kept .if2 .taken)) (looked .before .if3 .left)
     (sym (looked .find .ensures) ∙ c .before .before .before .enum-told .given .1) true
     (le-leb _ _ (rw (c .before .before .limit .ensures) at (c .if4 .taken)))
 
@@ -53,7 +55,8 @@ returns-3 : tie.Need-returns-3
 returns-3 c =
     let looked = c .before .before .before .before .before in
     let kept = looked .before .before .before in
-    list-new _ _ (sym (asked kept .before .is-sound .ensures) ∙ asked kept .if1 .taken) (as-promised _ _ _ _ (kept .before .before .is-text .ensures) (kept .if2 .taken)) (looked .before .if3 .left)
+    list-new _ _ (sym (asked kept .before .is-sound .ensures) ∙ asked kept .if1 .taken)
+    (as-promised _ _ _ _ (kept .before .before .is-text .ensures) (kept .if2 .taken)) (looked .before .if3 .left)
     (sym (looked .find .ensures) ∙ c .before .before .before .enum-told .given .1) false
     (lt-leb _ _ (rw (c .before .before .limit .ensures) at (c .if4 .left)))
 
@@ -61,7 +64,8 @@ returns-4 : tie.Need-returns-4
 returns-4 c =
     let looked = c .before .before .before in
     let kept = looked .before .before .before in
-    list-there _ _ (sym (asked kept .before .is-sound .ensures) ∙ asked kept .if1 .taken) (as-promised _ _ _ _ (kept .before .before .is-text .ensures) (kept .if2 .taken)) (looked .before .if3 .left) _
+    list-there _ _ (sym (asked kept .before .is-sound .ensures) ∙ asked kept .if1 .taken)
+    (as-promised _ _ _ _ (kept .before .before .is-text .ensures) (kept .if2 .taken)) (looked .before .if3 .left) _
     (sym (looked .find .ensures) ∙ c .before .i .given .1)
 
 returns-5 : tie.Need-returns-5
