@@ -18,13 +18,12 @@ use Rattle.message.specs.Reader.{readOf}
 use Rattle.rows.specs.declared.Listing.{Listing}
 use Rattle.rows.specs.Rows.{rowLimit}
 use Rattle.numbers.proofs.Laws.{up-is}
-use Rattle.counters.specs.declared.Counters.{Counters}
-use Rattle.counters.specs.Counting.{lastNumber}
+use Rattle.counters.specs.Counting.{lastNumber, withWanted}
 use Rattle.counters.proofs.Sound.{sound-gives, sound-exactly}
 use Rattle.table.specs.Table.{numberTable, contentTable}
 use Rattle.table.proofs.Tables.{Wanted, number-content, number-refused, number-taken}
 use Rattle.show.specs.Showing.{nothingShown}
-use Rattle.book.specs.State.{State, Arrival, wantedIn, sheetOf, basisOf, soundIn, UnsoundIn}
+use Rattle.book.specs.State.{State, withCounters, Arrival, wantedIn, sheetOf, basisOf, soundIn, UnsoundIn}
 use Rattle.book.specs.Calls.{listTable, listCases, listAnswer, listed, numberCases, messageCases, messageGiven, spent, after}
 use Rattle.book.specs.Calls.{delivered, rowTable, rowCases, rowAnswer, shown}
 
@@ -89,20 +88,15 @@ module _ (s : State) where
       }
 
   -- what each call leaves when it refuses
-  -- the counters with another wanted number
-  abbrev pub withWanted : ℕ → Counters
-  withWanted n =
-      let c = s .counters in record { wanted = n; phase = c .phase; rows = c .rows; lines = c .lines; taken = c .taken }
-
   pub record RefusedKeeps : Type 0 where
     pub list : (l : Listing) → (listed s l .answer ≡ 0 → ⊥) → listed s l .state ≡ s
-    pub deliver : (a : Arrival) → (delivered s a .answer ≡ 0 → ⊥)
-        → (delivered s a .state .rows ≡ s .rows) × (delivered s a .state .lines ≡ s .lines)
+    -- every room stays: but for the counters the state is the one that was lent
+    pub deliver : (a : Arrival) → (delivered s a .answer ≡ 0 → ⊥) → withCounters (s .counters) (delivered s a .state) ≡ s
     -- refused at the wanted number, in a sound book: the number is used up, all else stays
     pub used : (a : Arrival) → soundIn s ≡ true → a .number ≡ wantedIn s → a .number ≤ lastNumber
         → (delivered s a .answer ≡ 0 → ⊥) → delivered s a .state ≡ spent s
     -- which in a sound book is: the wanted number up by one, all else equal
-    pub byOne : soundIn s ≡ true → spent s ≡ record { counters = withWanted (wantedIn s + 1); rows = s .rows; lines = s .lines }
+    pub byOne : soundIn s ≡ true → spent s ≡ withCounters (withWanted (wantedIn s + 1) (s .counters)) s
     -- at any other number, or in an unsound book: refused, and nothing changes
     pub unused : (a : Arrival) → (soundIn s ≡ true → a .number ≡ wantedIn s → a .number ≤ lastNumber → ⊥)
         → (delivered s a .answer ≡ 0 → ⊥) × (delivered s a .state ≡ s)
@@ -157,13 +151,12 @@ module _ (s : State) where
         ∙ after-refused (given (numberCases s (a .number))) f
         ∙ ap (λ (u : Bool). cond u (spent s) s) (number-keeps f)
 
-  -- what is left of a room that a refusal keeps, whether or not it uses up the number
-  kept-room : (room : State → List ℕ) → room (spent s) ≡ room s → (r : Record) (g : Case) → (g .number ≡ 0 → ⊥)
-      → room (after s r g) ≡ room s
-  kept-room room e r g z = rw (ne-eqb (g .number) 0 z) (go (g .uses))
+  -- a refusal keeps every room, whether or not it uses up the number
+  kept-rooms : (r : Record) (g : Case) → (g .number ≡ 0 → ⊥) → withCounters (s .counters) (after s r g) ≡ s
+  kept-rooms r g z = rw (ne-eqb (g .number) 0 z) (go (g .uses))
     where
-      go : (u : Bool) → room (cond u (spent s) s) ≡ room s
-      go true = e
+      go : (u : Bool) → withCounters (s .counters) (cond u (spent s) s) ≡ s
+      go true = refl
       go false = refl
 
   pub refused-keeps : RefusedKeeps
@@ -171,11 +164,7 @@ module _ (s : State) where
   refused-keeps =
       record {
         list = λ l z. rw (ne-eqb (listAnswer s l) 0 z);
-        deliver =
-            λ a z. (
-              kept-room (λ t. t .rows) refl (readOf (a .message) .found) (messageGiven s a) z,
-              kept-room (λ t. t .lines) refl (readOf (a .message) .found) (messageGiven s a) z,
-            );
+        deliver = λ a z. kept-rooms (readOf (a .message) .found) (messageGiven s a) z;
         used = λ a h w f z. used-is a (wanted (a .number) h w f) z;
         byOne =
             λ h.

@@ -38,7 +38,8 @@ use Rattle.show.specs.declared.RowShown.{RowShown}
 use Rattle.show.specs.Showing.{shownOf, nothingShown}
 use Rattle.book.specs.declared.Located.{Located}
 use Rattle.book.specs.declared.Shown.{Shown}
-use Rattle.book.specs.State.{State, lent, Outcome, Arrival, arrives, wantedIn, sheetOf, linesIn, basisOf, soundIn}
+use Rattle.book.specs.State.{State, withCounters, withRows, withLines, Outcome, Arrival, arrives, wantedIn, sheetOf, linesIn, basisOf}
+use Rattle.book.specs.State.{soundIn}
 use Rattle.book.specs.Calls.{closeTop, listTable, listCases, listAnswer, withListing, listed, numberCases, messageGiven, rowNamed}
 use Rattle.book.specs.Calls.{lineNamed, taking, delivered, rowCases, rowAnswer, rowFound, located, shown}
 use Rattle.book.proofs.Demand1.{list-told, message-told, number-told, row-told, answer-content, answer-number, refused-keeps}
@@ -47,9 +48,6 @@ use Rattle.book.proofs.Demand1.{list-told, message-told, number-told, r
 
 outcome-is : (o : Outcome) (n : ℕ) (t : State) → n ≡ o .answer → t ≡ o .state → record { answer = n; state = t } ≡ o
 outcome-is o n t e f = rw (e, f)
-
-state-is : (t : State) (c : Counters) (rows lines : List ℕ) → c ≡ t .counters → rows ≡ t .rows → lines ≡ t .lines → lent c rows lines ≡ t
-state-is t c rows lines e f g = rw (e, f, g)
 
 shown-is : (s : Shown) (a : Answer) (x : RowShown) → a ≡ s .answer → x ≡ s .row → record { answer = a; row = x } ≡ s
 shown-is s a x e f = rw (e, f)
@@ -124,11 +122,11 @@ module _ (s : State) (l : Listing) where
 
     pub list-done : numberOf a ≡ 0 → (c : Counters) (rows : List ℕ) → c ≡ oneRowMore (s .counters)
         → rows ≡ withRow (s .rows) (s .counters .rows) l
-        → record { answer = 0; state = lent c rows (s .lines) } ≡ listed s l
+        → record { answer = 0; state = withCounters c (withRows rows s) } ≡ listed s l
     unfolding listed
     list-done z c rows f g =
         let t : listAnswer s l ≡ 0 = sym answer-told ∙ z in
-        rw t (ap (λ (x : State). record { answer = 0; state = x }) (state-is (withListing s l) c rows (s .lines) f g refl))
+        rw (t, f, g)
 
 -- ---- where no row and no line is asked for, none is acted on
 
@@ -170,12 +168,12 @@ module _ (s : State) (m : List ℕ) (w : Wanted (soundIn s) (wantedIn s) (wanted
   verdict-number = ap numberOf verdict-is ∙ message-told s here
 
   pub refused-here : (numberOf (v .answer) ≡ 0 → ⊥) → (c : Counters) → c ≡ usedUp (s .counters)
-      → record { answer = numberOf (v .answer); state = lent c (s .rows) (s .lines) } ≡ delivered s here
+      → record { answer = numberOf (v .answer); state = withCounters c s } ≡ delivered s here
   unfolding delivered
   refused-here z c e =
       let u = refused-keeps s .used here (w .sound) refl (w .greatest) (λ p. z (verdict-number ∙ p)) in
-      outcome-is (delivered s here) (numberOf (v .answer)) (lent c (s .rows) (s .lines)) verdict-number
-      (ap (λ (x : Counters). lent x (s .rows) (s .lines)) e ∙ sym u)
+      outcome-is (delivered s here) (numberOf (v .answer)) (withCounters c s) verdict-number
+      (ap (λ (x : Counters). withCounters x s) e ∙ sym u)
 
   module _ (z : numberOf (v .answer) ≡ 0) where
     given-none : messageGiven s here .number ≡ 0
@@ -211,7 +209,7 @@ module _ (s : State) (m : List ℕ) (w : Wanted (soundIn s) (wantedIn s) (wanted
         → c ≡ takenBy kind (q .found .event) (s .counters)
         → rows ≡ rowsBy kind (s .rows) (q .found) (v .row)
         → lines ≡ linesBy kind (s .lines) (s .counters .lines) (wantedIn s) (q .found) (v .line)
-        → record { answer = 0; state = lent c rows lines } ≡ delivered s here
+        → record { answer = 0; state = withCounters c (withRows rows (withLines lines s)) } ≡ delivered s here
     unfolding delivered
     taken-here c rows lines ec er el =
         let fc
@@ -229,7 +227,7 @@ module _ (s : State) (m : List ℕ) (w : Wanted (soundIn s) (wantedIn s) (wanted
         ∙ ap (λ (x : Reading). linesBy (kindIn r) (s .lines) (s .counters .lines) (wantedIn s) (x .found) (v .line)) f
         ∙ ap (λ (x : Verdict). linesBy (kindIn r) (s .lines) (s .counters .lines) (wantedIn s) r (x .line)) judged
         ∙ line-is in
-        rw given-none (ap (λ (x : State). record { answer = 0; state = x }) (state-is (taking s r) c rows lines fc fr fl))
+        rw (given-none, fc, fr, fl)
 
 -- ---- a message under any number
 

@@ -21,7 +21,7 @@ use Rattle.take.specs.Taking.{linesBy, rowsBy, indexOf}
 use Rattle.show.specs.Showing.{shownOf, nothingShown}
 use Rattle.book.specs.declared.Located.{Located}
 use Rattle.book.specs.declared.Shown.{Shown}
-use Rattle.book.specs.State.{State, Outcome, Arrival, wantedIn, sheetOf, linesIn, basisOf, soundIn}
+use Rattle.book.specs.State.{State, withCounters, withRows, withLines, Outcome, Arrival, wantedIn, sheetOf, linesIn, basisOf, soundIn}
 
 -- ---- listing
 
@@ -50,7 +50,7 @@ listAnswer s l = given (listCases s l) .number
 
 -- done: a row added at the end
 abbrev pub withListing : State → Listing → State
-withListing s l = record { counters = oneRowMore (s .counters); rows = withRow (s .rows) (s .counters .rows) l; lines = s .lines }
+withListing s l = withCounters (oneRowMore (s .counters)) (withRows (withRow (s .rows) (s .counters .rows) l) s)
 
 unfoldable pub listed : State → Listing → Outcome
 listed s l = record { answer = listAnswer s l; state = cond (eqb (listAnswer s l) 0) (withListing s l) s }
@@ -78,15 +78,13 @@ lineNamed s r = indexOf (lineWith (oldKey r) (linesIn s))
 -- done: the message acts on that row and that line, and is counted
 abbrev pub taking : State → Record → State
 taking s r =
-    record {
-      counters = takenBy (kindIn r) (r .event) (s .counters);
-      rows = rowsBy (kindIn r) (s .rows) r (rowNamed s r);
-      lines = linesBy (kindIn r) (s .lines) (s .counters .lines) (wantedIn s) r (lineNamed s r);
-    }
+    withCounters (takenBy (kindIn r) (r .event) (s .counters))
+    (withRows (rowsBy (kindIn r) (s .rows) r (rowNamed s r))
+    (withLines (linesBy (kindIn r) (s .lines) (s .counters .lines) (wantedIn s) r (lineNamed s r)) s))
 
 -- used up: the wanted number up by one, all else equal
 abbrev pub spent : State → State
-spent s = record { counters = usedUp (s .counters); rows = s .rows; lines = s .lines }
+spent s = withCounters (usedUp (s .counters)) s
 
 -- what a case of the table leaves: taken, or the number used up, or nothing
 abbrev pub after : State → Record → Case → State

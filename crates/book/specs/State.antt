@@ -25,6 +25,16 @@ pub record State : Type 0 where
 abbrev pub lent : Counters → List ℕ → List ℕ → State
 lent c rows lines = record { counters = c; rows = rows; lines = lines }
 
+-- a state with one part set and all else equal
+abbrev pub withCounters : Counters → State → State
+withCounters c s = lent c (s .rows) (s .lines)
+
+abbrev pub withRows : List ℕ → State → State
+withRows rows s = lent (s .counters) rows (s .lines)
+
+abbrev pub withLines : List ℕ → State → State
+withLines lines s = lent (s .counters) (s .rows) lines
+
 -- the answer's number, and the state that is left
 pub record Outcome : Type 0 where
   pub answer : ℕ

@@ -42,13 +42,7 @@ const CLOSE_TOP: u32 = 2000000000;
 pub fn fresh() -> Counters
     ensures { λ c. ⌜ c ≡ freshCounters ⌝ }
 {
-    Counters {
-        wanted: 1,
-        phase: 0,
-        rows: 0,
-        lines: 0,
-        taken: 0,
-    }
+    counters::fresh()
 }
 
 // 13 to 17 or `Done`.

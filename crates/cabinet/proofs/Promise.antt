@@ -20,6 +20,7 @@ use Rattle.message.proofs.Fitting.{read-fits}
 use Rattle.layouts.proofs.Demand2.{read-again}
 use Rattle.records.specs.Packed.{recordOf}
 use Rattle.records.proofs.Again.{record-again}
+use Rattle.book.specs.State.{State}
 use Rattle.cabinet.specs.Crossing.{Crossed}
 use Rattle.cabinet.proofs.sorundappa_start as start
 use Rattle.cabinet.proofs.sorundappa_start.Reads as start-reads
@@ -45,20 +46,28 @@ pub start-one : (κs : Lfts 1) (a : ArgsD start.signature κs) (r r′ : Unit) (
     → start-reads.Learnt κs a r s → start-reads.Learnt κs a r′ s′ → now (s .0) ≡ now (s′ .0)
 start-one κs a r r′ s s′ h h′ = h ∙ sym h′
 
-pub list-one : (κs : Lfts 4) (a : ArgsD list.signature κs) (r r′ : ℕ) (s s′ : AtExit (endedOf 4 list-kinds.ps list-kinds.r) κs)
+pub list-one : (κs : Lfts (list.signature .lifetimes)) (a : ArgsD list.signature κs) (r r′ : ℕ)
+    (s s′ : AtExit (endedOf (list.signature .lifetimes) list-kinds.ps list-kinds.r) κs)
     → list-reads.Learnt κs a r s → list-reads.Learnt κs a r′ s′ → (r ≡ r′) × (now (s .0) ≡ now (s′ .0)) × (now (s .1 .0) ≡ now (s′ .1 .0))
 list-one κs a r r′ s s′ h h′ =
     let e = h ∙ sym h′ in
-    (ap (λ (x : Crossed). x .answer) e, ap (λ (x : Crossed). x .words) e, ap (λ (x : Crossed). x .rows) e)
+    (ap (λ (x : Crossed). x .answer) e, ap (λ (x : Crossed). x .words) e, ap (λ (x : Crossed). x .state .rows) e)
 
-pub deliver-one : (κs : Lfts 4) (a : ArgsD deliver.signature κs) (r r′ : ℕ) (s s′ : AtExit (endedOf 4 deliver-kinds.ps deliver-kinds.r) κs)
+pub deliver-one : (κs : Lfts (deliver.signature .lifetimes)) (a : ArgsD deliver.signature κs) (r r′ : ℕ)
+    (s s′ : AtExit (endedOf (deliver.signature .lifetimes) deliver-kinds.ps deliver-kinds.r) κs)
     → deliver-reads.Learnt κs a r s → deliver-reads.Learnt κs a r′ s′
     → (r ≡ r′) × (now (s .0) ≡ now (s′ .0)) × (now (s .1 .0) ≡ now (s′ .1 .0)) × (now (s .1 .1 .0) ≡ now (s′ .1 .1 .0))
 deliver-one κs a r r′ s s′ h h′ =
     let e = h ∙ sym h′ in
-    (ap (λ (x : Crossed). x .answer) e, ap (λ (x : Crossed). x .words) e, ap (λ (x : Crossed). x .rows) e, ap (λ (x : Crossed). x .lines) e)
+    let left = ap (λ (x : Crossed). x .state) e in (
+      ap (λ (x : Crossed). x .answer) e,
+      ap (λ (x : Crossed). x .words) e,
+      ap (λ (t : State). t .rows) left,
+      ap (λ (t : State). t .lines) left,
+    )
 
-pub row-one : (κs : Lfts 5) (a : ArgsD row.signature κs) (r r′ : ℕ) (s s′ : AtExit (endedOf 5 row-kinds.ps row-kinds.r) κs)
+pub row-one : (κs : Lfts (row.signature .lifetimes)) (a : ArgsD row.signature κs) (r r′ : ℕ)
+    (s s′ : AtExit (endedOf (row.signature .lifetimes) row-kinds.ps row-kinds.r) κs)
     → row-reads.Learnt κs a r s → row-reads.Learnt κs a r′ s′ → (r ≡ r′) × (now (s .1 .1 .1 .1 .0) ≡ now (s′ .1 .1 .1 .1 .0))
 row-one κs a r r′ s s′ h h′ = (h .0 ∙ sym (h′ .0), h .1 ∙ sym (h′ .1))
 

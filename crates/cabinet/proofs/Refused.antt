@@ -14,38 +14,38 @@ use Rattle.records.proofs.Stores.{no-bytes}
 use Rattle.show.specs.Showing.{nothingShown}
 use Rattle.counters.specs.Counting.{lastNumber}
 use Rattle.rows.specs.declared.Listing.{Listing}
-use Rattle.book.specs.State.{State, Arrival, wantedIn, soundIn}
+use Rattle.book.specs.State.{State, withCounters, Arrival, wantedIn, soundIn}
 use Rattle.book.specs.Calls.{listed, delivered, shown}
 use Rattle.book.proofs.Demand1.{refused-keeps}
-use Rattle.words.specs.Words.{counterCount, counterWords, rowCount, rowWords}
+use Rattle.words.specs.Words.{counterCount, counterWords, countersOf, rowCount, rowWords}
 use Rattle.words.proofs.Again.{words-again}
-use Rattle.cabinet.specs.Crossing.{stateOf, crossed, crossing}
+use Rattle.cabinet.specs.Crossing.{crossed, crossing}
 
 nothing-words : rowWords nothingShown ≡ replicate rowCount 0
 unfolding rowWords be
 nothing-words = refl
 
-module _ (w rows lines : List ℕ) where
+-- a call that is lent the words w, and the rooms of s
+module _ (w : List ℕ) (s : State) where
   abbrev here : State
-  here = stateOf w rows lines
+  here = withCounters (countersOf w) s
 
   -- a refused listing hands back everything as it was
   pub list-kept : (l : Listing) → length w ≡ counterCount → (listed here l .answer ≡ 0 → ⊥)
-      → crossing (listed here l) ≡ crossed (listed here l .answer) w rows lines
+      → crossing (listed here l) ≡ crossed (listed here l .answer) w here
   list-kept l k z =
-      ap (λ (s : State). crossed (listed here l .answer) (counterWords (s .counters)) (s .rows) (s .lines)) (refused-keeps here .list l z)
-      ∙ ap (λ (x : List ℕ). crossed (listed here l .answer) x rows lines) (words-again w k)
+      ap (λ (t : State). crossed (listed here l .answer) (counterWords (t .counters)) t) (refused-keeps here .list l z)
+      ∙ ap (λ (x : List ℕ). crossed (listed here l .answer) x here) (words-again w k)
 
   module _ (a : Arrival) where
-    -- whatever refused it, no row and no line is changed
-    pub deliver-kept : (delivered here a .answer ≡ 0 → ⊥)
-        → (delivered here a .state .rows ≡ rows) × (delivered here a .state .lines ≡ lines)
+    -- whatever refused it, no room is changed: but for the counters the state is the one that was lent
+    pub deliver-kept : (delivered here a .answer ≡ 0 → ⊥) → withCounters (here .counters) (delivered here a .state) ≡ here
     deliver-kept z = refused-keeps here .deliver a z
 
     -- in an unsound book, or at any number but the wanted one, no word is changed either
     pub deliver-unused : length w ≡ counterCount → (soundIn here ≡ true → a .number ≡ wantedIn here → a .number ≤ lastNumber → ⊥)
         → counterWords (delivered here a .state .counters) ≡ w
-    deliver-unused k h = ap (λ (s : State). counterWords (s .counters)) (refused-keeps here .unused a h .1) ∙ words-again w k
+    deliver-unused k h = ap (λ (t : State). counterWords (t .counters)) (refused-keeps here .unused a h .1) ∙ words-again w k
 
   pub row-cleared : (symbol : List ℕ) → (numberOf (shown here symbol .answer) ≡ 0 → ⊥)
       → rowWords (shown here symbol .row) ≡ replicate rowCount 0

@@ -9,12 +9,12 @@ ghost use Rattle.answers.specs.Answers.{numberOf};
 ghost use Rattle.message.specs.Reader.{readOf};
 ghost use Rattle.message.specs.Writer.{writeAnswer, writeOut};
 ghost use Rattle.counters.specs.Counting.{freshCounters};
-ghost use Rattle.book.specs.State.{arrives};
+ghost use Rattle.book.specs.State.{lent, arrives};
 ghost use Rattle.book.specs.Calls.{listed, delivered, shown};
-ghost use Rattle.words.specs.Words.{counterWords, rowWords};
+ghost use Rattle.words.specs.Words.{counterWords, countersOf, rowWords};
 ghost use Rattle.records.specs.Packed.{recordOf, recordBytes};
 ghost use Rattle.cabinet.specs.Sizes.{sizeOf};
-ghost use Rattle.cabinet.specs.Crossing.{stateOf, listingWith, crossed, crossing};
+ghost use Rattle.cabinet.specs.Crossing.{listingWith, crossed, crossing};
 
 // The number of an answer in the table: what every call but the first and the last tells.
 fn told(a: Answer) -> u8
@@ -41,8 +41,9 @@ pub extern "C" fn sorundappa_list(
     symbol: &[u8; 8],
     close: u32,
 ) -> u8
-    ensures { λ a. ⌜ crossed a (now (counters .exit)) (now (rows .exit)) (now (lines .entry))
-        ≡ crossing (listed (stateOf (now (counters .entry)) (now (rows .entry)) (now (lines .entry)))
+    ensures { λ a. ⌜ crossed a (now (counters .exit))
+        (lent (countersOf (now (counters .exit))) (now (rows .exit)) (now (lines .entry)))
+        ≡ crossing (listed (lent (countersOf (now (counters .entry))) (now (rows .entry)) (now (lines .entry)))
         (listingWith (now (symbol .entry)) close)) ⌝ }
 {
     let name = *symbol;
@@ -67,8 +68,9 @@ pub extern "C" fn sorundappa_deliver(
     number: u64,
     message: &[u8],
 ) -> u8
-    ensures { λ a. ⌜ crossed a (now (counters .exit)) (now (rows .exit)) (now (lines .exit))
-        ≡ crossing (delivered (stateOf (now (counters .entry)) (now (rows .entry)) (now (lines .entry)))
+    ensures { λ a. ⌜ crossed a (now (counters .exit))
+        (lent (countersOf (now (counters .exit))) (now (rows .exit)) (now (lines .exit)))
+        ≡ crossing (delivered (lent (countersOf (now (counters .entry))) (now (rows .entry)) (now (lines .entry)))
         (arrives number (now (message .entry)))) ⌝ }
 {
     let before = words::counters(counters);
@@ -89,10 +91,10 @@ pub extern "C" fn sorundappa_row(
     row: &mut [u64; words::ROW],
 ) -> u8
     ensures answer { λ a. ⌜ a
-        ≡ numberOf (shown (stateOf (now (counters .entry)) (now (rows .entry)) (now (lines .entry)))
+        ≡ numberOf (shown (lent (countersOf (now (counters .entry))) (now (rows .entry)) (now (lines .entry)))
         (now (symbol .entry)) .answer) ⌝ }
     ensures row { λ a. ⌜ now (row .exit)
-        ≡ rowWords (shown (stateOf (now (counters .entry)) (now (rows .entry)) (now (lines .entry)))
+        ≡ rowWords (shown (lent (countersOf (now (counters .entry))) (now (rows .entry)) (now (lines .entry)))
         (now (symbol .entry)) .row) ⌝ }
 {
     let name = *symbol;

@@ -10,10 +10,6 @@ use native.Mathlib.Omega.{arith}
 use borrow.Author.Tests.{eqb-true, eqb-false, eq-eqb, ne-eqb}
 use lib.Dec.{eqb}
 use lib.ListN.{length, length-append}
-use contract.Lifetimes.{Lfts}
-use borrow.Fn.World.{ArgsD}
-use borrow.Fn.Kinds.{endedOf}
-use denote.Triple.Clauses.{AtExit}
 use Rattle.octets.specs.Run.{Bytes, tab}
 use Rattle.answers.specs.Answers.{numberOf, answerOf}
 use Rattle.answers.specs.Cases.{Case, given, inBook}
@@ -30,22 +26,17 @@ use Rattle.table.proofs.Tables.{Wanted}
 use Rattle.show.specs.Showing.{nothingShown}
 use Rattle.book.specs.declared.Said.{Said}
 use Rattle.book.specs.declared.Shown.{Shown}
-use Rattle.book.specs.State.{State, lent, Outcome, Arrival, wantedIn, rowsIn, linesIn, soundIn}
+use Rattle.book.specs.State.{State, withCounters, Outcome, Arrival, wantedIn, rowsIn, linesIn, soundIn}
 use Rattle.book.specs.Calls.{listTable, listAnswer, listed, delivered, shown}
 use Rattle.book.specs.State as State-of
 use Rattle.book.proofs.Demand1.{message-told, refused-keeps}
 use Rattle.book.proofs.Touches.{touches-only}
+use Rattle.book.proofs.Promise.{ListLfts, ListArgs, ListExit, DeliverLfts, DeliverArgs, DeliverExit, RowLfts, RowArgs, RowExit}
 use Rattle.book.proofs.Promise.{listFrom, listGiven, listLeft, deliverFrom, deliverGiven, deliverLeft, rowFrom, rowGiven}
 use Rattle.book.proofs.fresh.Reads as fresh-reads
-use Rattle.book.proofs.list as list
 use Rattle.book.proofs.list.Reads as list-reads
-use Rattle.book.proofs.list.Kinds as list-kinds
-use Rattle.book.proofs.deliver as deliver
 use Rattle.book.proofs.deliver.Reads as deliver-reads
-use Rattle.book.proofs.deliver.Kinds as deliver-kinds
-use Rattle.book.proofs.row as row
 use Rattle.book.proofs.row.Reads as row-reads
-use Rattle.book.proofs.row.Kinds as row-kinds
 use Rattle.clerk.specs.Steps.{Book, bookOf, content, after, next, listing}
 use Rattle.clerk.specs.Clerk.{isIn, symbolsIn, sheetFrom, sheetOf, tradesOf, answerTo, takenOf, rowOf, shownBy, bookBy, clerkBook}
 use Rattle.clerk.specs.Arrivals.{Largest, numbers, Copies, upto, deliverEach}
@@ -63,8 +54,8 @@ use Rattle.clerk.proofs.Wall.{row-shown, row-missing}
 pub data Lists : State → List Listing → State → Type 1 where
   no-listing : {s : State} → Lists s [] s
   -- a symbol is eight bytes and a close fits four by their types: `entered` in crates/book/proofs/list/Proof.antt proves it of every call
-  a-listing : (κs : Lfts 2) (a : ArgsD list.signature κs) (r : Said)
-      (x : AtExit (endedOf 2 list-kinds.ps list-kinds.r) κs) {ls : List Listing} {end : State}
+  a-listing : (κs : ListLfts) (a : ListArgs κs) (r : Said)
+      (x : ListExit κs) {ls : List Listing} {end : State}
       → ListingFits (listGiven κs a) → list-reads.Learnt κs a r x → Lists (listLeft κs a r x .state) ls end
       → Lists (listFrom κs a) (listGiven κs a ∷ ls) end
 
@@ -72,8 +63,8 @@ pub data Lists : State → List Listing → State → Type 1 where
 pub data Delivers : State → List Arrival → State → Type 1 where
   no-message : {s : State} → Delivers s [] s
   -- lent lines and a message are bytes by their types: `entered` in crates/book/proofs/deliver/Proof.antt proves it of every call
-  a-message : (κs : Lfts 3) (a : ArgsD deliver.signature κs) (r : Said)
-      (x : AtExit (endedOf 3 deliver-kinds.ps deliver-kinds.r) κs) {l : List Arrival} {end : State}
+  a-message : (κs : DeliverLfts) (a : DeliverArgs κs) (r : Said)
+      (x : DeliverExit κs) {l : List Arrival} {end : State}
       → Bytes (deliverFrom κs a .lines) → Bytes (deliverGiven κs a .message) → deliver-reads.Learnt κs a r x
       → Delivers (deliverLeft κs a r x .state) l end
       → Delivers (deliverFrom κs a) (deliverGiven κs a ∷ l) end
@@ -88,12 +79,12 @@ usedIn no-message = []
 usedIn (a-message κs a r x bl bm q t) =
     cond (eqb (r .counters .wanted) (wantedIn (deliverFrom κs a))) (usedIn t) (answered (deliverGiven κs a) (r .answer) ∷ usedIn t)
 
--- a whole day in rooms of any bytes: a fresh book, listings, deliveries
-pub record Day (rows lines : List ℕ) (ls : List Listing) (l : List Arrival) (end : State) : Type 1 where
+-- a whole day in the rooms of a state, of any bytes: a fresh book, listings, deliveries
+pub record Day (rooms : State) (ls : List Listing) (l : List Arrival) (end : State) : Type 1 where
   pub start : Counters
   pub started : fresh-reads.Learnt tt tt start tt
   pub ready : State
-  pub lists : Lists (lent start rows lines) ls ready
+  pub lists : Lists (withCounters start rooms) ls ready
   pub delivers : Delivers ready l end
 
 -- ---- the sheet
@@ -105,12 +96,12 @@ pub record Stands (R L : ℕ) (b : Book) (s : State) : Type 0 where
   pub rowRoom : length (s .rows) ≡ R
   pub lineRoom : length (s .lines) ≡ L
 
-fresh-stands : (rows lines : List ℕ) → Stands (length rows) (length lines) (listedBook []) (lent freshCounters rows lines)
+fresh-stands : (s : State) → Stands (length (s .rows)) (length (s .lines)) (listedBook []) (withCounters freshCounters s)
 unfolding bookOf usedRows usedLines tab
-fresh-stands rows lines =
+fresh-stands s =
     record {
-      reads = rw (none-used (rowLimit (length rows)), none-used (lineLimit (length lines)));
-      safe = fresh-sound (length rows) (length lines);
+      reads = rw (none-used (rowLimit (length (s .rows))), none-used (lineLimit (length (s .lines))));
+      safe = fresh-sound (length (s .rows)) (length (s .lines));
       rowRoom = refl;
       lineRoom = refl;
     }
@@ -330,20 +321,28 @@ module _ (R L : ℕ) where
 
 -- the reading of a row
 pub data Reads : State → List ℕ → Shown → Type 1 where
-  a-reading : (κs : Lfts 2) (a : ArgsD row.signature κs) (r : Shown) (x : AtExit (endedOf 2 row-kinds.ps row-kinds.r) κs)
+  a-reading : (κs : RowLfts) (a : RowArgs κs) (r : Shown) (x : RowExit κs)
       → row-reads.Learnt κs a r x → Reads (rowFrom κs a) (rowGiven κs a) r
 
 reads-are : {s : State} {symbol : List ℕ} {r : Shown} → Reads s symbol r → r ≡ shown s symbol
 reads-are (a-reading κs a r x h) = h
 
 -- the book on which the sheet is finished
-pub sheet-stands : {rows lines : List ℕ} {ls : List Listing} {l : List Arrival} {end : State} (h : Day rows lines ls l end)
-    → Stands (length rows) (length lines) (listedBook (sheetOf (rowLimit (length rows)) ls)) (h .ready)
-sheet-stands {rows} {lines} h = lists-are (length rows) (length lines) [] (h .lists) (rw (h .started) (fresh-stands rows lines))
+pub sheet-stands : {rooms : State} {ls : List Listing} {l : List Arrival} {end : State} (h : Day rooms ls l end)
+    → Stands (length (rooms .rows)) (length (rooms .lines)) (listedBook (sheetOf (rowLimit (length (rooms .rows))) ls)) (h .ready)
+sheet-stands {rooms} h =
+    lists-are (length (rooms .rows)) (length (rooms .lines)) [] (h .lists) (rw (h .started) (fresh-stands rooms))
 
 -- a day's messages, of which there are N, and a line that brings copies of them, 1 to n at most in order
 module _ (day : ℕ → List ℕ) (N n : ℕ) (fits : N ≤ lastNumber) (l : List Arrival) (copies : Copies day N l) (largest : Largest (numbers l) n)
-    {rows lines : List ℕ} {ls : List Listing} {end : State} (h : Day rows lines ls l end) where
+    {rooms : State} {ls : List Listing} {end : State} (h : Day rooms ls l end) where
+  -- what the rooms held before
+  abbrev rows : List ℕ
+  rows = rooms .rows
+
+  abbrev lines : List ℕ
+  lines = rooms .lines
+
   abbrev sheet : List Listing
   sheet = sheetOf (rowLimit (length rows)) ls
 
@@ -416,18 +415,19 @@ module _ (day : ℕ → List ℕ) (N n : ℕ) (fits : N ≤ lastNumber) (l : Lis
 -- two runs of one day with one sheet, one size of room for lines and one n end in the clerk's book, both, and so in equal books,
 -- whatever the rooms held before
 pub equal-books : (day : ℕ → List ℕ) (N n : ℕ) → N ≤ lastNumber
-    → {rows lines : List ℕ} {ls : List Listing} {l : List Arrival} {end : State}
-    → {rows′ lines′ : List ℕ} {ls′ : List Listing} {l′ : List Arrival} {end′ : State}
-    → length lines ≡ length lines′ → sheetOf (rowLimit (length rows)) ls ≡ sheetOf (rowLimit (length rows′)) ls′
-    → Copies day N l → Copies day N l′ → Largest (numbers l) n → Largest (numbers l′) n → Day rows lines ls l end
-    → Day rows′ lines′ ls′ l′ end′
-    → let clerks = clerkBook (sheetOf (rowLimit (length rows)) ls) (lineLimit (length lines)) (upto day n) in
+    → {rooms : State} {ls : List Listing} {l : List Arrival} {end : State}
+    → {rooms′ : State} {ls′ : List Listing} {l′ : List Arrival} {end′ : State}
+    → length (rooms .lines) ≡ length (rooms′ .lines)
+    → sheetOf (rowLimit (length (rooms .rows))) ls ≡ sheetOf (rowLimit (length (rooms′ .rows))) ls′
+    → Copies day N l → Copies day N l′ → Largest (numbers l) n → Largest (numbers l′) n → Day rooms ls l end
+    → Day rooms′ ls′ l′ end′
+    → let clerks = clerkBook (sheetOf (rowLimit (length (rooms .rows))) ls) (lineLimit (length (rooms .lines))) (upto day n) in
     (bookOf end ≡ clerks) × (bookOf end′ ≡ clerks) × (bookOf end ≡ bookOf end′)
-equal-books day N n fits {rows} {lines} {ls} {l} {end} {rows′} {lines′} {ls′} {l′} {end′} el es c c′ g g′ h h′ =
+equal-books day N n fits {rooms} {ls} {l} {end} {rooms′} {ls′} {l′} {end′} el es c c′ g g′ h h′ =
     (one, other, one ∙ sym other)
   where
     clerks : Book
-    clerks = clerkBook (sheetOf (rowLimit (length rows)) ls) (lineLimit (length lines)) (upto day n)
+    clerks = clerkBook (sheetOf (rowLimit (length (rooms .rows))) ls) (lineLimit (length (rooms .lines))) (upto day n)
 
     one : bookOf end ≡ clerks
     one = one-true-day day N n fits l c g h .1
@@ -436,8 +436,8 @@ equal-books day N n fits {rows} {lines} {ls} {l} {end} {rows′} {lines′} {ls�
     other =
         one-true-day day N n fits l′ c′ g′ h′ .1
         ∙ sym (
-        ap (λ (s : List Listing). clerkBook s (lineLimit (length lines)) (upto day n)) es
-        ∙ ap (λ (k : ℕ). clerkBook (sheetOf (rowLimit (length rows′)) ls′) (lineLimit k) (upto day n)) el
+        ap (λ (s : List Listing). clerkBook s (lineLimit (length (rooms .lines))) (upto day n)) es
+        ∙ ap (λ (k : ℕ). clerkBook (sheetOf (rowLimit (length (rooms′ .rows))) ls′) (lineLimit k) (upto day n)) el
         )
 
 -- a book that wants another number than 1 refuses every listing
@@ -453,7 +453,7 @@ late s l w e = go (soundIn s) e
     go false e = omega arith
 
 -- once the book wants another number than 1, a listing leaves the state as it was
-pub listings-first : (κs : Lfts 2) (a : ArgsD list.signature κs) (r : Said) (x : AtExit (endedOf 2 list-kinds.ps list-kinds.r) κs)
+pub listings-first : (κs : ListLfts) (a : ListArgs κs) (r : Said) (x : ListExit κs)
     → list-reads.Learnt κs a r x → (wantedIn (listFrom κs a) ≡ 1 → ⊥) → listLeft κs a r x .state ≡ listFrom κs a
 listings-first κs a r x h w =
     let s = listFrom κs a in

@@ -3,18 +3,19 @@
 -- Assumes nothing.
 use Prim.Native.Nat.{ℕ}
 use mathlib.Core.Path.{_≡_, refl, sym, subst}
+use mathlib.Core.Bool.{Bool, true, false, cond}
 use mathlib.Core.List.{List, [], _∷_}
-use denote.Ref.{RefT}
+use lib.Dec.{eqb}
 use Rattle.octets.specs.Run.{Bytes}
 use Rattle.answers.specs.Answers.{numberOf, answerOf}
 use Rattle.rows.specs.declared.Listing.{Listing}
 use Rattle.rows.specs.Changed.{ListingFits}
 use Rattle.counters.specs.Counting.{freshCounters}
 use Rattle.book.specs.declared.Said.{Said}
-use Rattle.book.specs.State.{State, lent, Outcome, leaving, Arrival}
-use Rattle.book.specs.Calls.{listed, delivered, shown}
+use Rattle.book.specs.State.{State, withCounters, withRows, Outcome, Arrival}
+use Rattle.book.specs.Calls.{listAnswer, withListing, listed, delivered, shown}
 use Rattle.book.proofs.Demand1.{list-told, message-told}
-use Rattle.book.proofs.Touches.{touches-only}
+use Rattle.book.proofs.Promise.{listAt, listWith, listThen, deliverAt, deliverWith, deliverThen, rowAt, rowWith, rowThen}
 use Rattle.clerk.proofs.Lent.{deliver-bytes}
 use Rattle.clerk.proofs.Demand3.{Lists, no-listing, a-listing, Delivers, no-message, a-message, Day, Reads, a-reading}
 
@@ -27,18 +28,24 @@ abbrev pub AllBytes : List Arrival → Type 0
 AllBytes [] = Unit {0}
 AllBytes (a ∷ l) = Bytes (a .message) × AllBytes l
 
--- a slice that holds these elements, wherever it lies
-abbrev slice : List ℕ → RefT (List ℕ)
-slice xs = record { ptr = (0, 0); name = 0; now = xs }
-
 -- what a call with this outcome tells
 abbrev telling : Outcome → Said
 telling o = record { answer = answerOf (o .answer); counters = o .state .counters }
 
 -- such a call leaves the outcome, if its number is one of the table's
-told : (o : Outcome) (lines : List ℕ) → numberOf (answerOf (o .answer)) ≡ o .answer → lines ≡ o .state .lines
-    → leaving (telling o) (o .state .rows) lines ≡ o
-told o lines e f = rw (e, f)
+told : (o : Outcome) (t : State) → numberOf (answerOf (o .answer)) ≡ o .answer → t ≡ o .state
+    → record { answer = numberOf (answerOf (o .answer)); state = t } ≡ o
+told o t e f = rw (e, f)
+
+-- a listing leaves every room but the rows'
+list-left : (s : State) (l : Listing)
+    → withCounters (listed s l .state .counters) (withRows (listed s l .state .rows) s) ≡ listed s l .state
+unfolding listed
+list-left s l = go (eqb (listAnswer s l) 0)
+  where
+    go : (b : Bool) → let t = cond b (withListing s l) s in withCounters (t .counters) (withRows (t .rows) s) ≡ t
+    go true = refl
+    go false = refl
 
 list-bears : (s : State) (l : Listing) → numberOf (answerOf (listed s l .answer)) ≡ listed s l .answer
 unfolding listed
@@ -51,40 +58,31 @@ message-bears s a = message-told s a
 lists-there : (s : State) (ls : List Listing) → AllFit ls → (end : State) × (end .lines ≡ s .lines) × Lists s ls end
 lists-there s [] h = (s, refl, no-listing)
 lists-there s (x ∷ ls) h =
-    let c = s .counters in
     let o = listed s x in
-    let k = touches-only s .listedLines x in
-    let after = lent (o .state .counters) (o .state .rows) (s .lines) in
+    let after = withCounters (o .state .counters) (withRows (o .state .rows) s) in
     let t = lists-there after ls (h .1) in (
       t .0,
       t .1,
-      a-listing ([], ([], tt)) (c, (slice (s .rows), (slice (s .lines), (x, tt)))) (telling o)
-          (c, (slice (o .state .rows), (slice (s .lines), (x, tt)))) (h .0) (told o (s .lines) (list-bears s x) (sym k)) (t .2),
+      a-listing listAt (listWith s x) (telling o) (listThen (o .state) x) (h .0) (told o after (list-bears s x) (list-left s x)) (t .2),
     )
 
 delivers-there : (s : State) (l : List Arrival) → Bytes (s .lines) → AllBytes l → (end : State) × Delivers s l end
 delivers-there s [] bl h = (s, no-message)
 delivers-there s (a ∷ l) bl h =
-    let c = s .counters in
-    let m = a .message in
     let o = delivered s a in
     let t = delivers-there (o .state) l (deliver-bytes s a bl (h .0)) (h .1) in (
       t .0,
-      a-message ([], ([], ([], tt))) (c, (slice (s .rows), (slice (s .lines), (a .number, (slice m, tt))))) (telling o)
-          (c, (slice (o .state .rows), (slice (o .state .lines), (a .number, (slice m, tt))))) bl (h .0)
-          (told o (o .state .lines) (message-bears s a) refl) (t .1),
+      a-message deliverAt (deliverWith s a) (telling o) (deliverThen (o .state) a) bl (h .0) (told o (o .state) (message-bears s a) refl)
+          (t .1),
     )
 
-pub day-there : (rows lines : List ℕ) (ls : List Listing) (l : List Arrival) → Bytes lines → AllFit ls → AllBytes l
-    → (end : State) × Day rows lines ls l end
-day-there rows lines ls l bl e b =
-    let p = lists-there (lent freshCounters rows lines) ls e in
+pub day-there : (rooms : State) (ls : List Listing) (l : List Arrival) → Bytes (rooms .lines) → AllFit ls → AllBytes l
+    → (end : State) × Day rooms ls l end
+day-there rooms ls l bl e b =
+    let p = lists-there (withCounters freshCounters rooms) ls e in
     let q = delivers-there (p .0) l (subst Bytes (sym (p .1)) bl) b in
     (q .0, record { start = freshCounters; started = refl; ready = p .0; lists = p .2; delivers = q .1 })
 
 -- what a reading tells is told by some reading
 pub reading-there : (s : State) (symbol : List ℕ) → Reads s symbol (shown s symbol)
-reading-there s symbol =
-    let rows = slice (s .rows) in
-    let lines = slice (s .lines) in
-    a-reading ([], ([], tt)) (s .counters, (rows, (lines, (symbol, tt)))) (shown s symbol) (s .counters, (rows, (lines, (symbol, tt)))) refl
+reading-there s symbol = a-reading rowAt (rowWith s symbol) (shown s symbol) (rowThen s symbol) refl

@@ -35,6 +35,7 @@ use Rattle.rows.proofs.Slabs.{rows-put, rows-report, rows-summary, row-length, 
 use Rattle.counters.specs.declared.Counters.{Counters}
 use Rattle.counters.specs.Phases.{phaseOf, lastPhase}
 use Rattle.counters.specs.Counting.{lastNumber, freshCounters, usedUp, oneRowMore, takenBy, sound}
+use Rattle.counters.specs.Counting.{withWanted, withPhase, withRowCount, withLineCount, withTaken}
 use Rattle.counters.proofs.Sound.{Within, sound-gives}
 use Rattle.keys.specs.Keys.{kindIn, oldKey}
 use Rattle.table.specs.Table.{isFound, isListed, numberTable}
@@ -57,16 +58,14 @@ there (At i) e = (i, refl)
 
 -- ---- a taken message: the counters
 
+-- one number more used up and one message more taken, with that phase and so many lines
+abbrev one-taken : ℕ → ℕ → Counters → Counters
+one-taken phase lines c = withWanted (c .wanted + 1) (withPhase phase (withLineCount lines (withTaken (c .taken + 1) c)))
+
 -- what becomes of each counter of a sound book
 abbrev moved : Record → Counters → Counters
 moved r c =
-    record {
-      wanted = c .wanted + 1;
-      phase = cond (eventIn r) (phaseOf (r .event)) (c .phase);
-      rows = c .rows;
-      lines = cond (makesIn r) (c .lines + 1) (c .lines);
-      taken = c .taken + 1;
-    }
+    one-taken (cond (eventIn r) (phaseOf (r .event)) (c .phase)) (cond (makesIn r) (c .lines + 1) (c .lines)) c
 
 -- a word of the counters of a sound book is far from the greatest number
 record Small (c : Counters) : Type 0 where
@@ -85,10 +84,10 @@ small-is c rows lines w =
     }
 
 module _ (c : Counters) (h : Small c) where
-  used-up-is : usedUp c ≡ record { wanted = c .wanted + 1; phase = c .phase; rows = c .rows; lines = c .lines; taken = c .taken }
+  used-up-is : usedUp c ≡ withWanted (c .wanted + 1) c
   used-up-is = rw (up-is (c .wanted) (omega (arith, h .wanted)))
 
-  one-row-is : oneRowMore c ≡ record { wanted = c .wanted; phase = c .phase; rows = c .rows + 1; lines = c .lines; taken = c .taken }
+  one-row-is : oneRowMore c ≡ withRowCount (c .rows + 1) c
   one-row-is = rw (up-is (c .rows) (omega (arith, h .rows)))
 
   taken-is : (r : Record) → takenBy (kindIn r) (r .event) c ≡ moved r c
@@ -101,13 +100,10 @@ module _ (c : Counters) (h : Small c) where
       )
       (go (eventIn r) refl (makesIn r) refl)
     where
-      with-phase : ℕ → ℕ → Counters
-      with-phase phase lines = record { wanted = c .wanted + 1; phase = phase; rows = c .rows; lines = lines; taken = c .taken + 1 }
-
       go : (t : Bool) → eventIn r ≡ t → (u : Bool) → makesIn r ≡ u
-          → cond t (with-phase (phaseOf (r .event)) (c .lines))
-          (cond u (with-phase (c .phase) (c .lines + 1)) (with-phase (c .phase) (c .lines)))
-          ≡ with-phase (cond t (phaseOf (r .event)) (c .phase)) (cond u (c .lines + 1) (c .lines))
+          → cond t (one-taken (phaseOf (r .event)) (c .lines) c)
+          (cond u (one-taken (c .phase) (c .lines + 1) c) (one-taken (c .phase) (c .lines) c))
+          ≡ one-taken (cond t (phaseOf (r .event)) (c .phase)) (cond u (c .lines + 1) (c .lines)) c
       go true t true u = absurd (true≢false (sym u ∙ event-makes (kindIn r) t))
       go true t false u = refl
       go false t true u = refl

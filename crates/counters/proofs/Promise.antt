@@ -5,6 +5,7 @@ use mathlib.Core.Bool.{Bool}
 use Prim.Native.Nat.{ℕ}
 use Rattle.kinds.specs.declared.Kind.{Kind}
 use Rattle.counters.specs.declared.Counters.{Counters}
+use Rattle.counters.proofs.fresh.Reads as fresh-reads
 use Rattle.counters.proofs.phase_of.Reads as phase-of-reads
 use Rattle.counters.proofs.is_due.Reads as is-due-reads
 use Rattle.counters.proofs.Counters.use_up.Reads as use-up-reads
@@ -14,6 +15,9 @@ use Rattle.counters.proofs.Counters.add_row.Reads as add-row-reads
 use Rattle.counters.proofs.Counters.add_line.Reads as add-line-reads
 use Rattle.counters.proofs.Counters.take.Reads as take-reads
 use Rattle.counters.proofs.Counters.is_sound.Reads as is-sound-reads
+
+pub fresh-one : (r r′ : Counters) → fresh-reads.Learnt tt tt r tt → fresh-reads.Learnt tt tt r′ tt → r ≡ r′
+fresh-one r r′ h h′ = h ∙ sym h′
 
 pub phase-of-one : (e e₁ e₂ : ℕ) (p p′ : ℕ) → phase-of-reads.Learnt tt (e, tt) p (e₁, tt)
     → phase-of-reads.Learnt tt (e, tt) p′ (e₂, tt) → p ≡ p′

@@ -20,23 +20,40 @@ lastNumber = 4294967295
 abbrev pub freshCounters : Counters
 freshCounters = record { wanted = 1; phase = 0; rows = 0; lines = 0; taken = 0 }
 
+-- ---- the counters with one word set and all else equal
+
+abbrev pub withWanted : ℕ → Counters → Counters
+withWanted n c = record { wanted = n; phase = c .phase; rows = c .rows; lines = c .lines; taken = c .taken }
+
+abbrev pub withPhase : ℕ → Counters → Counters
+withPhase n c = record { wanted = c .wanted; phase = n; rows = c .rows; lines = c .lines; taken = c .taken }
+
+abbrev pub withRowCount : ℕ → Counters → Counters
+withRowCount n c = record { wanted = c .wanted; phase = c .phase; rows = n; lines = c .lines; taken = c .taken }
+
+abbrev pub withLineCount : ℕ → Counters → Counters
+withLineCount n c = record { wanted = c .wanted; phase = c .phase; rows = c .rows; lines = n; taken = c .taken }
+
+abbrev pub withTaken : ℕ → Counters → Counters
+withTaken n c = record { wanted = c .wanted; phase = c .phase; rows = c .rows; lines = c .lines; taken = n }
+
 -- ---- each move. `up` is one more, and stays at the greatest number of 64 bits; in a sound book nothing comes near that (`up-is`)
 
 -- used up: wanted number up by one, all else equal
 abbrev pub usedUp : Counters → Counters
-usedUp c = record { wanted = up (c .wanted); phase = c .phase; rows = c .rows; lines = c .lines; taken = c .taken }
+usedUp c = withWanted (up (c .wanted)) c
 
 abbrev pub advanced : ℕ → Counters → Counters
-advanced phase c = record { wanted = c .wanted; phase = phase; rows = c .rows; lines = c .lines; taken = c .taken }
+advanced phase c = withPhase phase c
 
 abbrev pub countedTaken : Counters → Counters
-countedTaken c = record { wanted = c .wanted; phase = c .phase; rows = c .rows; lines = c .lines; taken = up (c .taken) }
+countedTaken c = withTaken (up (c .taken)) c
 
 abbrev pub oneRowMore : Counters → Counters
-oneRowMore c = record { wanted = c .wanted; phase = c .phase; rows = up (c .rows); lines = c .lines; taken = c .taken }
+oneRowMore c = withRowCount (up (c .rows)) c
 
 abbrev pub oneLineMore : Counters → Counters
-oneLineMore c = record { wanted = c .wanted; phase = c .phase; rows = c .rows; lines = up (c .lines); taken = c .taken }
+oneLineMore c = withLineCount (up (c .lines)) c
 
 -- a message of a type taken: its number used up and it counted; an event begins its phase, and T and C use a line
 unfoldable pub takenBy : Kind → ℕ → Counters → Counters

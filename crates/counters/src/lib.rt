@@ -24,6 +24,19 @@ pub const LAST_NUMBER: u64 = 4294967295;
 // The phase that event C, the last, begins.
 const LAST_PHASE: u64 = 6;
 
+// What a book starts from.
+pub fn fresh() -> Counters
+    ensures { λ c. ⌜ c ≡ Counting.freshCounters ⌝ }
+{
+    Counters {
+        wanted: 1,
+        phase: 0,
+        rows: 0,
+        lines: 0,
+        taken: 0,
+    }
+}
+
 // The phase that an event begins: 1 to 6 for O S Q M E C, 0 for any other byte.
 pub fn phase_of(event: u8) -> u64
     ensures { λ p. ⌜ p ≡ Phases.phaseOf event ⌝ }

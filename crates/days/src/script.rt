@@ -104,13 +104,13 @@ fn call(c: Counters, rows: &mut [u8], lines: &mut [u8], code: &[u8]) -> Counters
 }
 
 fn counters(code: &[u8]) -> Counters {
-    Counters {
-        wanted: number8(code, 1),
-        phase: number8(code, 9),
-        rows: number8(code, 17) as usize,
-        lines: number8(code, 25) as usize,
-        taken: number8(code, 33),
-    }
+    let mut c = book::fresh();
+    c.wanted = number8(code, 1);
+    c.phase = number8(code, 9);
+    c.rows = number8(code, 17) as usize;
+    c.lines = number8(code, 25) as usize;
+    c.taken = number8(code, 33);
+    c
 }
 
 // What changes nothing.

@@ -39,8 +39,8 @@ part-of m u k h f =
     = ap (drop u) (sym (take-append-drop k m)) ∙ drop-append-le u (take k m) (drop k m) (omega arith) in
     here m u (k - u) (drop u (take k m)) (drop k m) d (length-drop u (take k m) ∙ ap (λ (x : ℕ). x - u) n)
 
-module _ (s : State) (n : ℕ) (m : List ℕ) (k : ℕ) (is : k ≡ min n (length m)) (p : Played) (rows lines : List ℕ)
-    (e : came p rows lines ≡ played s (take k m)) where
+module _ (s : State) (n : ℕ) (m : List ℕ) (k : ℕ) (is : k ≡ min n (length m)) (p : Played) (t : State)
+    (e : came p t ≡ played s (take k m)) where
   brought : take k m ≡ take n m
   brought = ap (λ (x : ℕ). take x m) is ∙ first-of n m
 
@@ -50,7 +50,7 @@ module _ (s : State) (n : ℕ) (m : List ℕ) (k : ℕ) (is : k ≡ min n (lengt
   pub used-fits : p .used ≤ k
   used-fits = omega (arith, used-is, used-within s (take k m), length-take-le k m (omega arith))
 
-  play-is : came p rows lines ≡ played s (take n m)
+  play-is : came p t ≡ played s (take n m)
   play-is = e ∙ ap (played s) brought
 
   left-is : drop (p .used) (take k m) ≡ leftOver s (take n m)
@@ -64,9 +64,9 @@ module _ (s : State) (n : ℕ) (m : List ℕ) (k : ℕ) (is : k ≡ min n (lengt
   moved out h = h ∙ ap (sets m 0) (part-of m (p .used) k used-fits (omega arith) ∙ left-is)
 
   pub fed-is : (out : List ℕ) → out ≡ sets m 0 (part m (p .used) (k - p .used))
-      → record { play = came p rows lines; held = k - p .used; piece = out } ≡ fed s n m
+      → record { play = came p t; held = k - p .used; piece = out } ≡ fed s n m
   unfolding fed
-  fed-is out h = parts (came p rows lines) (k - p .used) out play-is held-is (moved out h)
+  fed-is out h = parts (came p t) (k - p .used) out play-is held-is (moved out h)
     where
       parts : (y : Play) (i : ℕ) (o : List ℕ) → y ≡ fed s n m .play → i ≡ fed s n m .held → o ≡ fed s n m .piece
           → record { play = y; held = i; piece = o } ≡ fed s n m

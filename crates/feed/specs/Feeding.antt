@@ -4,7 +4,7 @@ use Prim.Native.Nat.{ℕ}
 use mathlib.Core.List.{List}
 use lib.ListN.{length, take, drop}
 use lib.Seq.{sets}
-use Rattle.book.specs.State.{State, lent}
+use Rattle.book.specs.State.{State}
 use Rattle.tape.specs.Playing.{Play, played}
 use Rattle.feed.specs.declared.Fed.{Fed}
 
@@ -18,10 +18,9 @@ pub record Feeding : Type 0 where
   pub held : ℕ
   pub piece : List ℕ
 
--- what a call that told so, and left these rooms and this piece, comes to
-abbrev pub cameOf : Fed → List ℕ → List ℕ → List ℕ → Feeding
-cameOf f rows lines piece =
-    record { play = record { state = lent (f .counters) rows lines; used = f .used; stop = f .stop }; held = f .held; piece = piece }
+-- what a call that told so, and left this state and this piece, comes to
+abbrev pub cameOf : Fed → State → List ℕ → Feeding
+cameOf f s piece = record { play = record { state = s; used = f .used; stop = f .stop }; held = f .held; piece = piece }
 
 unfoldable pub fed : State → ℕ → List ℕ → Feeding
 fed s n piece =

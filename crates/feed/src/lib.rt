@@ -19,7 +19,7 @@ pub struct Fed {
 
 // Plays the first n bytes of a piece, or all where it has fewer.
 pub fn feed(c: Counters, rows: &mut [u8], lines: &mut [u8], piece: &mut [u8], n: usize) -> Fed
-    ensures { λ r. ⌜ cameOf r (now (rows .exit)) (now (lines .exit)) (now (piece .exit))
+    ensures { λ r. ⌜ cameOf r (lent (r .counters) (now (rows .exit)) (now (lines .exit))) (now (piece .exit))
         ≡ fed (lent c (now (rows .entry)) (now (lines .entry))) n (now (piece .entry)) ⌝ }
 {
     let k = lesser(n, piece.len());

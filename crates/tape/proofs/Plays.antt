@@ -24,7 +24,7 @@ use Rattle.tape.proofs.Heads.{never, standing-within}
 -- ---- one entry, from what the book promises
 
 -- all that lies from a place on
-pub rest-all : (b : List ℕ) (at : ℕ) → take (length b - at) (drop at b) ≡ drop at b
+rest-all : (b : List ℕ) (at : ℕ) → take (length b - at) (drop at b) ≡ drop at b
 rest-all b at =
     let l : length (drop at b) ≤ length b - at = omega (arith, length-drop at b) in
     take-all (length b - at) (drop at b) l
@@ -43,10 +43,11 @@ module _ (s : State) (b : List ℕ) where
   listing-acted symbol close e f o h =
       ap (λ (x : Outcome). x .state) h ∙ ap (λ (l : Listing). listed s l .state) (listing-is b symbol close e f)
 
-  pub message-acted : (number : ℕ) (m : List ℕ) → number ≡ be (part b 1 4) → m ≡ drop 5 b → (o : Outcome)
-      → o ≡ delivered s (arrives number m) → o .state ≡ acted s (delivery b)
+  pub message-acted : (number : ℕ) → number ≡ be (part b 1 4) → (o : Outcome)
+      → o ≡ delivered s (arrives number (take (length b - 5) (drop 5 b))) → o .state ≡ acted s (delivery b)
   unfolding acted
-  message-acted number m e f o h = ap (λ (x : Outcome). x .state) h ∙ ap (λ (a : Arrival). delivered s a .state) (arrival-is b number m e f)
+  message-acted number e o h =
+      ap (λ (x : Outcome). x .state) h ∙ ap (λ (a : Arrival). delivered s a .state) (arrival-is b number _ e (rest-all b 5))
 
   -- which of the two the kind says
   module _ (x : ℕ) (is : x ≡ getD b 0 0) (t : State) where

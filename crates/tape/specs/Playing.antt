@@ -3,7 +3,7 @@
 use Prim.Native.Nat.{ℕ, zero, suc, _+_}
 use mathlib.Core.List.{List, [], _∷_, _++_}
 use lib.ListN.{length, take, drop}
-use Rattle.book.specs.State.{State, lent}
+use Rattle.book.specs.State.{State}
 use Rattle.book.specs.Calls.{listed, delivered}
 use Rattle.tape.specs.Entries.{Entry, Lists, Delivers, headOf, entryOf}
 use Rattle.tape.specs.declared.Stop.{Stop}
@@ -32,9 +32,9 @@ pub record Play : Type 0 where
   pub used : ℕ
   pub stop : Stop
 
--- what a call that told so, and left these rooms, comes to
-abbrev pub came : Played → List ℕ → List ℕ → Play
-came p rows lines = record { state = lent (p .counters) rows lines; used = p .used; stop = p .stop }
+-- what a call that told so, and left this state, comes to
+abbrev pub came : Played → State → Play
+came p s = record { state = s; used = p .used; stop = p .stop }
 
 abbrev pub stopped : State → Stop → Play
 stopped s w = record { state = s; used = 0; stop = w }

@@ -29,7 +29,7 @@ pub struct Played {
 
 // Plays the whole entries at the head of a part of a tape. Whatever the book answers to one, the next is played.
 pub fn play(c: Counters, rows: &mut [u8], lines: &mut [u8], part: &[u8]) -> Played
-    ensures { λ p. ⌜ came p (now (rows .exit)) (now (lines .exit))
+    ensures { λ p. ⌜ came p (lent (p .counters) (now (rows .exit)) (now (lines .exit)))
         ≡ played (lent c (now (rows .entry)) (now (lines .entry))) (now (part .entry)) ⌝ }
 {
     let mut counters = c;

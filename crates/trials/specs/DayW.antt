@@ -2,14 +2,12 @@
 -- Assumes nothing.
 use Prim.Native.Nat.{ℕ}
 use mathlib.Core.List.{List, [], _∷_}
-use lib.ListN.{replicate}
-use Rattle.counters.specs.Counting.{freshCounters}
-use Rattle.book.specs.State.{State, lent, arrives}
+use Rattle.book.specs.State.{arrives}
 use Rattle.tape.specs.Entries as Entries
 use Rattle.tape.specs.Playing as Playing
 use Rattle.tape.specs.Entries.{Entry, Lists, Delivers, tapeOf}
 use Rattle.tape.specs.Playing.{Play, played}
-use Rattle.trials.specs.Days.{abcd, w, dayOf, rowsRoom, linesRoom, bookShows}
+use Rattle.trials.specs.Days.{abcd, w, dayOf, freshRooms, bookShows}
 
 -- the listing and the six messages, each under its number; the kinds are S T T T X C
 unfoldable pub entriesW : List Entry
@@ -26,10 +24,6 @@ entriesW =
 unfoldable pub tapeW : List ℕ
 unfolding bookShows Entries.bytesOf entriesW
 tapeW = tapeOf entriesW
-
--- a fresh book in rooms for two rows and twelve lines and some bytes more, all 35 at first
-abbrev pub freshRooms : State
-freshRooms = lent freshCounters (replicate rowsRoom 35) (replicate linesRoom 35)
 
 unfoldable pub playW : Play
 unfolding tapeW Entries.bodyLength Entries.headOf Entries.entryOf Playing.acted Playing.playSome Playing.played

@@ -191,9 +191,13 @@ unfoldable pub listedEach : State → List Listing → State
 listedEach s [] = s
 listedEach s (l ∷ ls) = listedEach (listed s l .state) ls
 
+-- a fresh book in rooms for two rows and twelve lines and some bytes more, all 35 at first
+abbrev pub freshRooms : State
+freshRooms = lent freshCounters (replicate rowsRoom 35) (replicate linesRoom 35)
+
 -- a fresh book with the sheet finished
 unfoldable pub opened : List Listing → State
-opened sheet = listedEach (lent freshCounters (replicate rowsRoom 35) (replicate linesRoom 35)) sheet
+opened sheet = listedEach freshRooms sheet
 
 unfoldable pub deliveredIn : State → ℕ → List ℕ → State
 deliveredIn s n m = delivered s (arrives n m) .state

@@ -5,18 +5,16 @@
 use Prim.Native.Nat.{ℕ, _≤_}
 use mathlib.Core.Path.{_≡_}
 use mathlib.Core.List.{List, [], _∷_}
-use lib.ListN.{replicate}
 use Rattle.lines.specs.Lines.{lineLimit}
 use Rattle.rows.specs.Rows.{rowLimit}
-use Rattle.counters.specs.Counting.{freshCounters}
-use Rattle.book.specs.State.{State, lent, arrives}
+use Rattle.book.specs.State.{State, withCounters, withRows, withLines, arrives}
 use Rattle.book.specs.Calls.{listed, spent, delivered}
 use Rattle.clerk.specs.Steps.{Book}
 use Rattle.clerk.specs.Clerk as Clerk
 use Rattle.clerk.specs.Clerk.{sheetOf, clerkBook}
 use Rattle.clerk.specs.Arrivals.{Largest, upto}
-use Rattle.trials.specs.Days.{abcd, q1, event, trade, cancel, dayOf, alone, rowsRoom, linesRoom, opened, deliveredIn, leftBy}
-use Rattle.trials.specs.Days.{clerkShows}
+use Rattle.trials.specs.Days.{abcd, q1, event, trade, cancel, dayOf, alone, rowsRoom, linesRoom, freshRooms, opened, deliveredIn}
+use Rattle.trials.specs.Days.{leftBy, clerkShows}
 
 abbrev pub day : ℕ → List ℕ
 day = dayOf (event 1 79 ∷ trade 2 81 q1 100 ∷ cancel 3 81 q1 200 ∷ [])
@@ -33,7 +31,7 @@ ready = opened (alone 250000)
 
 unfoldable pub untouched : State
 unfolding ready
-untouched = lent freshCounters (replicate rowsRoom 35) (replicate linesRoom 35)
+untouched = freshRooms
 
 -- the book after these arrivals
 unfoldable pub afterThese : List ℕ → State
@@ -64,19 +62,19 @@ pub record Breaks : Type 0 where
   -- another room for rows is lent after number 1: the trade's symbol is not listed there
   pub otherRows :
       let s = afterThese (1 ∷ []) in
-      (delivered (lent (s .counters) (replicate rowsRoom 35) (s .lines)) (arrives 2 (day 2)) .state .counters .taken ≡ 1) ×
+      (delivered (withRows (untouched .rows) s) (arrives 2 (day 2)) .state .counters .taken ≡ 1) ×
       (clerks 2 .taken ≡ 2)
   -- no room for lines is lent after number 1: the trade gives 12, and the clerk knows the room that was lent at first
   pub otherSize :
       let s = afterThese (1 ∷ []) in
-      (delivered (lent (s .counters) (s .rows) []) (arrives 2 (day 2)) .state .counters .taken ≡ 1) × (clerks 2 .taken ≡ 2)
+      (delivered (withLines [] s) (arrives 2 (day 2)) .state .counters .taken ≡ 1) × (clerks 2 .taken ≡ 2)
   -- another room for lines, of the same size, is lent after number 2: the cancel finds no line
   pub otherLines :
       let s = afterThese (1 ∷ 2 ∷ []) in
-      (delivered (lent (s .counters) (s .rows) (replicate linesRoom 35)) (arrives 3 (day 3)) .state .counters .taken ≡ 2) ×
+      (delivered (withLines (untouched .lines) s) (arrives 3 (day 3)) .state .counters .taken ≡ 2) ×
       (clerks 3 .taken ≡ 3)
   -- the counters of an earlier call are handed in again
   pub oldCounters :
       let s = afterThese (1 ∷ 2 ∷ []) in
       let t = deliveredIn s 3 (day 3) in
-      (delivered (lent (s .counters) (t .rows) (t .lines)) (arrives 3 (day 3)) .state .counters .taken ≡ 2) × (clerks 3 .taken ≡ 3)
+      (delivered (withCounters (s .counters) t) (arrives 3 (day 3)) .state .counters .taken ≡ 2) × (clerks 3 .taken ≡ 3)

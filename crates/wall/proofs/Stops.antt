@@ -22,9 +22,9 @@ goes-on w k q = go k (ap (tagOf the-type) q)
     go (inl e) f = omega (arith, e, f)
     go (inr e) f = omega (arith, e, f)
 
-pub held-fits : (f : Fed) (rows lines left : List ℕ) (s : State) (n : ℕ) (piece : List ℕ) → cameOf f rows lines left ≡ fed s n piece
+pub held-fits : (f : Fed) (t : State) (left : List ℕ) (s : State) (n : ℕ) (piece : List ℕ) → cameOf f t left ≡ fed s n piece
     → (tagOf the-type (f .stop) ≡ 0) ⊎ (tagOf the-type (f .stop) ≡ 2) → f .held ≤ 71
-held-fits f rows lines left s n piece e k =
+held-fits f t left s n piece e k =
     let w : f .stop ≡ fed s n piece .play .stop = ap (λ (x : Feeding). x .play .stop) e in
     let h : f .held ≡ fed s n piece .held = ap (λ (x : Feeding). x .held) e in
     omega (arith, h, held-short s n piece (λ q. goes-on (f .stop) k (w ∙ q)))

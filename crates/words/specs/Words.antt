@@ -4,9 +4,10 @@ use Prim.Native.Nat.{ℕ, _-_}
 use mathlib.Core.List.{List, [], _∷_}
 use mathlib.Core.Bool.{cond}
 use lib.IntN.{ℤ, pos, negsuc}
-use lib.ListN.{getD}
+use lib.ListN.{length, getD}
 use Rattle.numbers.specs.Number.{be}
 use Rattle.counters.specs.declared.Counters.{Counters}
+use Rattle.counters.specs.Counting.{freshCounters}
 use Rattle.figures.specs.declared.Price.{Price}
 use Rattle.figures.specs.declared.Price.the-variants.{Absent, Of}
 use Rattle.rows.specs.declared.Reported.{Reported}
@@ -15,13 +16,6 @@ use Rattle.show.specs.declared.Net.{Net}
 use Rattle.show.specs.declared.Net.the-variants.{NoNet, Amount}
 use Rattle.show.specs.declared.RowShown.{RowShown}
 
--- how many words the counters are, and how many a row is
-abbrev pub counterCount : ℕ
-counterCount = 5
-
-abbrev pub rowCount : ℕ
-rowCount = 15
-
 -- ---- counters
 
 -- 0 wanted number, 1 phase, 2 rows used, 3 lines used, 4 messages taken
@@ -29,8 +23,12 @@ unfoldable pub counterWords : Counters → List ℕ
 counterWords c = c .wanted ∷ c .phase ∷ c .rows ∷ c .lines ∷ c .taken ∷ []
 
 -- the same words, read
-unfoldable pub countersOf : List ℕ → Counters
+abbrev pub countersOf : List ℕ → Counters
 countersOf w = record { wanted = getD w 0 0; phase = getD w 1 0; rows = getD w 2 0; lines = getD w 3 0; taken = getD w 4 0 }
+
+-- how many they are
+abbrev pub counterCount : ℕ
+counterCount = length (counterWords freshCounters)
 
 -- ---- a row; a figure that may be absent is a mark, 1 where it is there, and the figure, 0 where it is not
 
@@ -83,3 +81,7 @@ rowWords r =
     ∷ reportedMark (r .reported)
     ∷ reportedWord (r .reported)
     ∷ []
+
+-- how many they are
+abbrev pub rowCount : ℕ
+rowCount = 15

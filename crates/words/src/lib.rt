@@ -15,24 +15,15 @@ pub const COUNTERS: usize = 5;
 
 pub const ROW: usize = 15;
 
-// A word as a count: both have 64 bits.
-fn count_of(x: u64) -> usize
-    ensures { λ n. ⌜ n ≡ x ⌝ }
-{
-    x as usize
-}
-
 // The counters that the words are.
 pub fn counters(w: &[u64; COUNTERS]) -> Counters
     ensures { λ c. ⌜ c ≡ W.countersOf (now (w .entry)) ⌝ }
 {
-    let rows = count_of(w[2]);
-    let lines = count_of(w[3]);
     Counters {
         wanted: w[0],
         phase: w[1],
-        rows: rows,
-        lines: lines,
+        rows: w[2] as usize,
+        lines: w[3] as usize,
         taken: w[4],
     }
 }

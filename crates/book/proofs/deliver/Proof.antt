@@ -8,11 +8,11 @@ use borrow.Author.Needs.{needs}
 use Rattle.book.proofs.deliver.Statement.{statement}
 use Rattle.book.proofs.deliver.Tie as tie
 
-abbrev state : tie.Start → State
-state s = lent (s .args .c) (s .args .rows .now) (s .args .lines .now)
-
 abbrev start : tie.After-judge-arrival → tie.Start
 start c = c .before .before .before .before .before .before
+
+abbrev state : tie.Start → State
+state s = lent (s .args .c) (s .args .rows .now) (s .args .lines .now)
 
 -- what a call lends are bytes
 pub entered : (c : tie.After-shared-slice-known)
@@ -39,8 +39,7 @@ same-length-2 c = search needs
 returns : tie.Need-returns
 returns c =
     let judged = c .before .before in
-    let s = start judged in
-    early-left (state s) (s .args .number) (s .args .message .now) _ (judged .judge-arrival .ensures)
+    early-left _ _ _ _ (judged .judge-arrival .ensures)
     (λ e. c .if1 .taken (c .before .number .ensures ∙ e))
 
 use-number-requires : tie.Need-use-number-requires
@@ -62,8 +61,7 @@ returns-2 c =
     let used = c .before .before .before .before in
     let wanted = used .before .before .before in
     let judged = wanted .before .before in
-    let s = start judged in
-    wanted-left (state s) (s .args .number) (s .args .message .now) _ (judged .judge-arrival .ensures)
+    wanted-left _ _ _ _ (judged .judge-arrival .ensures)
     (sym (wanted .before .number .ensures) ∙ wanted .if1 .left) _ (used .use-number .ensures)
 
 pub deliver-spec : {M : Type 1} → statement M

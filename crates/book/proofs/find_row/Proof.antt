@@ -1,14 +1,10 @@
 -- `book::find_row` meets its contract.
 -- Assumes nothing.
 use mathlib.Core.Path.{sym, _∙_}
-use Rattle.book.specs.State.{State, lent}
 use Rattle.book.proofs.Steps.{locate-none, locate-there, locate-unsound}
 use borrow.Author.Needs.{needs}
 use Rattle.book.proofs.find_row.Statement.{statement}
 use Rattle.book.proofs.find_row.Tie as tie
-
-abbrev state : tie.Start → State
-state s = lent (s .args .c) (s .args .rows .now) (s .args .lines .now)
 
 is-sound-requires : tie.Need-is-sound-requires
 is-sound-requires c κs = search needs
@@ -25,21 +21,17 @@ enum-known-i c = search needs
 returns : tie.Need-returns
 returns c =
     let there = c .before .before .before in
-    let s = there .before .before .before .before in
-    locate-none (state s) (s .args .symbol) (sym (there .before .is-sound .ensures) ∙ there .if1 .taken)
+    locate-none _ _ (sym (there .before .is-sound .ensures) ∙ there .if1 .taken)
     (sym (c .before .before .find .ensures) ∙ c .enum-told .given .1)
 
 returns-2 : tie.Need-returns-2
 returns-2 c =
     let there = c .before .before .before .before in
-    let s = there .before .before .before .before in
-    locate-there (state s) (s .args .symbol) _ (sym (there .before .is-sound .ensures) ∙ there .if1 .taken)
+    locate-there _ _ _ (sym (there .before .is-sound .ensures) ∙ there .if1 .taken)
     (sym (c .before .before .before .find .ensures) ∙ c .before .i .given .1)
 
 returns-3 : tie.Need-returns-3
-returns-3 c =
-    let s = c .before .before .before .before in
-    locate-unsound (state s) (s .args .symbol) (sym (c .before .is-sound .ensures) ∙ c .if1 .left)
+returns-3 c = locate-unsound _ _ (sym (c .before .is-sound .ensures) ∙ c .if1 .left)
 
 pub find-row-spec : {M : Type 1} → statement M
 find-row-spec =

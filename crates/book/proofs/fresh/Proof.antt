@@ -1,11 +1,14 @@
 -- `book::fresh` meets its contract.
 -- Assumes nothing.
-use mathlib.Core.Path.{refl}
+use borrow.Author.Needs.{needs}
 use Rattle.book.proofs.fresh.Statement.{statement}
 use Rattle.book.proofs.fresh.Tie as tie
 
+fresh-requires : tie.Need-fresh-requires
+fresh-requires c κs = search needs
+
 returns : tie.Need-returns
-returns c = refl
+returns c = c .fresh .ensures
 
 pub fresh-spec : {M : Type 1} → statement M
-fresh-spec = tie.close (tie.spec returns)
+fresh-spec = tie.close (tie.spec fresh-requires returns)

@@ -1,31 +1,19 @@
 -- `book::judge_listing` meets its contract.
 -- Assumes nothing.
-use mathlib.Core.Path.{_≡_, ap, sym, _∙_}
+use mathlib.Core.Path.{_≡_, sym, _∙_}
 use mathlib.Core.Bool.{Bool, true, false, _&&_}
 use borrow.Author.Tests.{le-leb, lt-leb}
-use lib.Dec.{leb}
-use Rattle.texts.specs.Text.{text}
-use Rattle.book.specs.State.{State, lent, soundIn}
-use Rattle.book.specs.Calls.{closeTop}
 use Rattle.book.proofs.Steps.{list-unsound, list-broken, list-late, list-there, list-new}
 use borrow.Author.Needs.{needs}
 use Rattle.book.proofs.judge_listing.Statement.{statement}
 use Rattle.book.proofs.judge_listing.Tie as tie
 
-abbrev state : tie.Start → State
-state s = lent (s .args .c) (s .args .rows .now) (s .args .lines .now)
-
 abbrev asked : tie.Then2 → tie.Then1
 asked c = c .before .before .before .before
 
-abbrev start : tie.Then1 → tie.Start
-start c = c .before .before .before .before .before
-
-safe : (c : tie.Then1) → soundIn (state (start c)) ≡ true
-safe c = sym (c .before .is-sound .ensures) ∙ c .if1 .taken
-
-keeps : (c : tie.Then2) → (text (start (asked c) .args .l .symbol) && leb (start (asked c) .args .l .close) closeTop) ≡ true
-keeps c = ap (λ (b : Bool). b && leb (start (asked c) .args .l .close) closeTop) (sym (c .before .before .is-text .ensures)) ∙ c .if2 .taken
+-- a test of two parts, the first as it was promised
+as-promised : (x y b t : Bool) → x ≡ y → (x && b) ≡ t → (y && b) ≡ t
+as-promised x y b t e h = rw e at h
 
 is-sound-requires : tie.Need-is-sound-requires
 is-sound-requires c κs = search needs
@@ -39,8 +27,8 @@ is-text-requires c κs = search needs
 returns : tie.Need-returns
 returns c =
     let kept = c .before .before in
-    let s = start (asked kept) in
-    list-late (state s) (s .args .l) (safe (asked kept)) (keeps kept) (c .if3 .taken)
+    list-late _ _ (sym (asked kept .before .is-sound .ensures) ∙ asked kept .if1 .taken)
+    (as-promised _ _ _ _ (kept .before .before .is-text .ensures) (kept .if2 .taken)) (c .if3 .taken)
 
 find-requires : tie.Need-find-requires
 find-requires c κs = search needs
@@ -58,8 +46,8 @@ returns-2 : tie.Need-returns-2
 returns-2 c =
     let looked = c .before .before .before .before .before in
     let kept = looked .before .before .before in
-    let s = start (asked kept) in
-    list-new (state s) (s .args .l) (safe (asked kept)) (keeps kept) (looked .before .if3 .left)
+    list-new _ _ (sym (asked kept .before .is-sound .ensures) ∙ asked kept .if1 .taken)
+    (as-promised _ _ _ _ (kept .before .before .is-text .ensures) (kept .if2 .taken)) (looked .before .if3 .left)
     (sym (looked .find .ensures) ∙ c .before .before .before .enum-told .given .1) true
     (le-leb _ _ (rw (c .before .before .limit .ensures) at (c .if4 .taken)))
 
@@ -67,8 +55,8 @@ returns-3 : tie.Need-returns-3
 returns-3 c =
     let looked = c .before .before .before .before .before in
     let kept = looked .before .before .before in
-    let s = start (asked kept) in
-    list-new (state s) (s .args .l) (safe (asked kept)) (keeps kept) (looked .before .if3 .left)
+    list-new _ _ (sym (asked kept .before .is-sound .ensures) ∙ asked kept .if1 .taken)
+    (as-promised _ _ _ _ (kept .before .before .is-text .ensures) (kept .if2 .taken)) (looked .before .if3 .left)
     (sym (looked .find .ensures) ∙ c .before .before .before .enum-told .given .1) false
     (lt-leb _ _ (rw (c .before .before .limit .ensures) at (c .if4 .left)))
 
@@ -76,21 +64,18 @@ returns-4 : tie.Need-returns-4
 returns-4 c =
     let looked = c .before .before .before in
     let kept = looked .before .before .before in
-    let s = start (asked kept) in
-    list-there (state s) (s .args .l) (safe (asked kept)) (keeps kept) (looked .before .if3 .left) _
+    list-there _ _ (sym (asked kept .before .is-sound .ensures) ∙ asked kept .if1 .taken)
+    (as-promised _ _ _ _ (kept .before .before .is-text .ensures) (kept .if2 .taken)) (looked .before .if3 .left) _
     (sym (looked .find .ensures) ∙ c .before .i .given .1)
 
 returns-5 : tie.Need-returns-5
 returns-5 c =
     let asked = c .before .before .before .before in
-    let s = asked .before .before .before .before .before in
-    list-broken (state s) (s .args .l) (sym (asked .before .is-sound .ensures) ∙ asked .if1 .taken)
-    (ap (λ (b : Bool). b && leb (s .args .l .close) closeTop) (sym (c .before .before .is-text .ensures)) ∙ c .if2 .left)
+    list-broken _ _ (sym (asked .before .is-sound .ensures) ∙ asked .if1 .taken)
+    (as-promised _ _ _ _ (c .before .before .is-text .ensures) (c .if2 .left))
 
 returns-6 : tie.Need-returns-6
-returns-6 c =
-    let s = c .before .before .before .before .before in
-    list-unsound (state s) (s .args .l) (sym (c .before .is-sound .ensures) ∙ c .if1 .left)
+returns-6 c = list-unsound _ _ (sym (c .before .is-sound .ensures) ∙ c .if1 .left)
 
 pub judge-listing-spec : {M : Type 1} → statement M
 judge-listing-spec =

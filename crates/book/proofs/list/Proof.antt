@@ -1,7 +1,6 @@
 -- `book::list` meets its contract.
 -- Assumes nothing.
 use mathlib.Core.Path.{sym, _∙_}
-use Rattle.book.specs.State.{State, lent}
 use Rattle.book.proofs.Steps.{list-refused, list-done}
 use Rattle.rows.specs.Changed.{ListingFits}
 use borrow.Author.Needs.{needs}
@@ -11,9 +10,6 @@ use Rattle.book.proofs.list.Tie as tie
 -- a listed symbol is eight bytes, and its close fits four
 pub entered : (s : tie.Start) → ListingFits (s .args .l)
 entered s = record { symbol = search needs; close = search needs }
-
-abbrev state : tie.Start → State
-state s = lent (s .args .c) (s .args .rows .now) (s .args .lines .now)
 
 judge-listing-requires : tie.Need-judge-listing-requires
 judge-listing-requires c κs = search needs
@@ -27,8 +23,7 @@ same-length c = search needs
 returns : tie.Need-returns
 returns c =
     let judged = c .before .before in
-    let s = judged .before .before .before .before in
-    list-refused (state s) (s .args .l) _ (judged .judge-listing .ensures) (λ e. c .if1 .taken (c .before .number .ensures ∙ e))
+    list-refused _ _ _ (judged .judge-listing .ensures) (λ e. c .if1 .taken (c .before .number .ensures ∙ e))
 
 put-requires : tie.Need-put-requires
 put-requires c κs = search needs
@@ -43,8 +38,7 @@ returns-2 : tie.Need-returns-2
 returns-2 c =
     let taken = c .before .before .before .before .before in
     let judged = taken .before .before in
-    let s = judged .before .before .before .before in
-    list-done (state s) (s .args .l) _ (judged .judge-listing .ensures)
+    list-done _ _ _ (judged .judge-listing .ensures)
     (sym (taken .before .number .ensures) ∙ taken .if1 .left) _ _ (c .add-row .ensures) (c .before .before .before .put .ensures)
 
 pub list-spec : {M : Type 1} → statement M

@@ -2,19 +2,16 @@
 -- Assumes nothing.
 use mathlib.Core.Path.{sym, _∙_}
 use native.Mathlib.Omega.{arith}
-use Rattle.table.proofs.Tables.{Wanted, number-wanted}
-use Rattle.book.specs.State.{State, lent, wantedIn, soundIn}
+use lib.ListN.{length}
+use Rattle.counters.specs.Counting.{sound}
+use Rattle.table.proofs.Tables.{number-wanted}
 use Rattle.book.proofs.Steps.{refused-here, taken-here}
 use borrow.Author.Needs.{needs}
 use Rattle.book.proofs.use_number.Statement.{statement}
 use Rattle.book.proofs.use_number.Tie as tie
 
-abbrev state : tie.Start → State
-state s = lent (s .args .c) (s .args .rows .now) (s .args .lines .now)
-
--- the number is one that a message may bear
-wanted-now : (s : tie.Start) → Wanted (soundIn (state s)) (wantedIn (state s)) (wantedIn (state s))
-wanted-now s = number-wanted (soundIn (state s)) (wantedIn (state s)) (wantedIn (state s)) .0 (s .pre)
+abbrev start : tie.After-read → tie.Start
+start c = c .before .before .before .before
 
 read-requires : tie.Need-read-requires
 read-requires c κs = search needs
@@ -42,15 +39,16 @@ returns c =
     let judged = c .before .before .before in
     let kinded = judged .before .before .before in
     let got = kinded .before .before in
-    let s = got .before .before .before .before in
-    refused-here (state s) (s .args .message .now) (wanted-now s) _ (got .read .ensures) _ (kinded .kind-of .ensures) _
+    refused-here _ _ (number-wanted _ _ _ .0 (start got .pre)) _ (got .read .ensures) _ (kinded .kind-of .ensures) _
     (judged .judge .ensures) (λ e. c .before .if1 .taken (c .before .before .number .ensures ∙ e)) _ (c .use-up .ensures)
 
 cast-take-lines : tie.Need-cast-take-lines
 cast-take-lines c =
     let kinded = c .before .before .before .before .before .before .before in
-    let s = kinded .before .before .before .before .before .before in
-    omega (arith, wanted-now s .greatest)
+    let s = start (kinded .before .before) in
+    let a = s .args in
+    let safe = sound (a .c) (length (a .rows .now)) (length (a .lines .now)) in
+    omega (arith, number-wanted safe (a .c .wanted) (a .c .wanted) .0 (s .pre) .greatest)
 
 take-lines-requires : tie.Need-take-lines-requires
 take-lines-requires c κs = search needs
@@ -75,8 +73,7 @@ returns-2 c =
     let judged = taken .before .before in
     let kinded = judged .before .before .before in
     let got = kinded .before .before in
-    let s = got .before .before .before .before in
-    taken-here (state s) (s .args .message .now) (wanted-now s) _ (got .read .ensures) _ (kinded .kind-of .ensures) _
+    taken-here _ _ (number-wanted _ _ _ .0 (start got .pre)) _ (got .read .ensures) _ (kinded .kind-of .ensures) _
     (judged .judge .ensures) (sym (taken .before .number .ensures) ∙ taken .if1 .left) _ _ _ (c .take .ensures)
     (kept .take-rows .ensures) (put .take-lines .ensures)
 

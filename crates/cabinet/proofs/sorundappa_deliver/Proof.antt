@@ -28,9 +28,7 @@ returns c =
     let put = c .before in
     let called = put .before .before .before .before .before .before .before in
     let read = called .before .before .before in
-    let s = read .before .before .before .before .before in
-    let a = s .args in
-    deliver-said (a .counters .now) (a .rows .now) (a .lines .now) _ (read .counters .ensures) (called .deliver .result) _ _ _ _
+    deliver-said _ _ (read .counters .ensures) _ _ _
     (put .put-counters .ensures) (c .told .ensures) _ (called .deliver .ensures)
 
 pub sorundappa-deliver-spec : {M : Type 1} → statement M

@@ -24,9 +24,7 @@ returns : tie.Need-returns
 returns c =
     let called = c .before .before .before .before .before .before in
     let read = called .before .before in
-    let s = read .before .before .before .before .before in
-    let a = s .args in
-    list-said (a .counters .now) (a .rows .now) (a .lines .now) _ (read .counters .ensures) (called .list .result) _ _ _ _
+    list-said _ _ (read .counters .ensures) _ _ _
     (c .before .put-counters .ensures) (c .told .ensures) _ (called .list .ensures)
 
 pub sorundappa-list-spec : {M : Type 1} → statement M

@@ -21,9 +21,7 @@ returns : tie.Need-returns
 returns c =
     let called = c .before .before .before .before in
     let read = called .before in
-    let s = read .before .before .before .before in
-    let a = s .args in
-    row-said (a .counters .now) (a .rows .now) (a .lines .now) _ (read .counters .ensures) (a .symbol .now) _ _ _
+    row-said _ _ (read .counters .ensures) _ _ _ _
     (called .row .ensures) (c .before .put-row .ensures) (c .told .ensures)
 
 pub sorundappa-row-spec : {M : Type 1} → statement M

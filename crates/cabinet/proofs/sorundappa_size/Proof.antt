@@ -6,6 +6,7 @@ use native.Mathlib.Omega.{arith}
 use Rattle.packing.specs.Packing.{lengthOf}
 use Rattle.packing.proofs.Lengths.{longest-is}
 use Rattle.records.specs.Packed.{packed}
+use Rattle.words.specs.Words.{counterWords}
 use Rattle.cabinet.specs.Sizes.{sizeOf}
 use Rattle.cabinet.proofs.Sizes.{size-type}
 use borrow.Author.Needs.{needs}
@@ -70,7 +71,7 @@ unfolding sizeOf packed
 returns-6 c = rw (c .match .keys6)
 
 returns-7 : tie.Need-returns-7
-unfolding sizeOf
+unfolding sizeOf counterWords
 returns-7 c = rw (c .match .keys7)
 
 returns-8 : tie.Need-returns-8

@@ -4,7 +4,6 @@ use mathlib.Core.Path.{sym}
 use native.Mathlib.Omega.{arith}
 use lib.Seq.{length-take-le}
 use Prim.Native.Nat.{_≤_}
-use Rattle.book.specs.State.{State, lent}
 use Rattle.feed.proofs.Laws.{used-fits, fed-is}
 use borrow.Author.Needs.{needs}
 use Rattle.feed.proofs.feed.Statement.{statement}
@@ -25,22 +24,13 @@ slice-aggregate-play c =
 play-requires : tie.Need-play-requires
 play-requires c κs = search needs
 
-abbrev state : tie.Start → State
-state s = lent (s .args .c) (s .args .rows .now) (s .args .lines .now)
-
--- what was found before the play, and where the call began
+-- what was found before the play
 abbrev chosen : tie.After-play → tie.After-lesser
 chosen c = c .before .before .before .before
 
-abbrev start : tie.After-play → tie.Start
-start c = chosen c .before .before .before .before
-
 -- no more is used than was played
 within : (c : tie.After-play) → c .play .result .used ≤ chosen c .lesser .result
-within c =
-    let s = start c in
-    let l = chosen c .lesser in
-    used-fits (state s) (s .args .n) (s .args .piece .now) (l .result) (l .ensures) (c .play .result) _ _ (c .play .ensures)
+within c = used-fits _ _ _ _ (chosen c .lesser .ensures) (c .play .result) _ (c .play .ensures)
 
 -- the play, from where its left-over bytes are moved
 abbrev told : tie.After-to-front-arg → tie.After-play
@@ -68,10 +58,8 @@ returns : tie.Need-returns
 returns c =
     let fronted = c .before .before in
     let gone = told (fronted .before) in
-    let s = start gone in
-    let l = chosen gone .lesser in
     let p = gone .play in
-    fed-is (state s) (s .args .n) (s .args .piece .now) (l .result) (l .ensures) (p .result) _ _ (p .ensures) _ (fronted .to-front .ensures)
+    fed-is _ _ _ _ (chosen gone .lesser .ensures) (p .result) _ (p .ensures) _ (fronted .to-front .ensures)
 
 pub feed-spec : {M : Type 1} → statement M
 feed-spec =

@@ -7,7 +7,7 @@ use lib.ListN.{length, drop}
 use Rattle.octets.specs.Run.{Bytes}
 use Rattle.tape.specs.Entries.{headOf}
 use Rattle.tape.specs.declared.entries.Head.the-variants.{Whole}
-use Rattle.book.specs.State.{State, lent}
+use Rattle.book.specs.State.{lent}
 use Rattle.tape.specs.Playing.{played, further}
 use Rattle.tape.proofs.Plays.{further-none, standing-at, standing-length, play-returns, play-turn}
 use borrow.Author.Needs.{needs}
@@ -16,8 +16,8 @@ use Rattle.tape.proofs.play.Tie as tie
 
 abbrev Inv-loop : tie.InvT-loop
 Inv-loop rows₀ lines₀ part counters₀ at₀ rows lines counters at =
-    (at ≤ length part) × (length rows ≡ length rows₀) × (length lines ≡ length lines₀)
-    × (further at (played (lent counters rows lines) (drop at part)) ≡ played (lent counters₀ rows₀ lines₀) part)
+    (at ≤ length part) × (further at (played (lent counters rows lines) (drop at part)) ≡ played (lent counters₀ rows₀ lines₀) part)
+    × (length rows ≡ length rows₀) × (length lines ≡ length lines₀)
 
 abbrev μ-loop : tie.MeasureT-loop
 μ-loop rows₀ lines₀ part counters₀ at₀ rows lines counters at = length part - at
@@ -33,7 +33,7 @@ entered c = (
 )
 
 loop-holds : tie.Need-loop-holds Inv-loop μ-loop
-loop-holds c = (omega arith, refl, refl, further-none _)
+loop-holds c = (omega arith, further-none _, refl, refl)
 
 head-at-requires : tie.Need-head-at-requires Inv-loop μ-loop
 head-at-requires c κs = search needs
@@ -41,22 +41,17 @@ head-at-requires c κs = search needs
 enum-known-head : tie.Need-enum-known-head Inv-loop μ-loop
 enum-known-head c = search needs
 
-abbrev state : tie.Start Inv-loop μ-loop → State
-state s = lent (s .args .c) (s .args .rows .now) (s .args .lines .now)
-
 same-length : tie.Need-same-length Inv-loop μ-loop
-same-length c = c .before .before .before .before .loop .inv .1
+same-length c = c .before .before .before .before .loop .inv .2
 
 same-length-2 : tie.Need-same-length-2 Inv-loop μ-loop
-same-length-2 c = c .before .before .before .before .loop .inv .2
+same-length-2 c = c .before .before .before .before .loop .inv .3
 
 returns : tie.Need-returns Inv-loop μ-loop
 returns c =
     let asked = c .before .before .before in
     let turn = asked .before in
-    let s = turn .before .before .before .before in
-    let l = turn .loop in
-    play-returns (state s) (lent (l .counters) (l .rows) (l .lines)) (s .args .part .now) (l .at) (l .inv .3) _
+    play-returns _ _ _ _ (turn .loop .inv .1) _
     (sym (asked .head-at .ensures) ∙ c .before .head .given .1)
 
 enum-known-head-2 : tie.Need-enum-known-head-2 Inv-loop μ-loop
@@ -107,16 +102,14 @@ loop-again : tie.Need-loop-again Inv-loop μ-loop
 loop-again c =
     let called = c .before .before .before .before in
     let told = called .before .before .before .before in
-    let s = start told in
     let l = turn-of told .loop in
     let n = size told in
     let w = within told in
     let k : l .at + n - l .at ≡ n = omega arith in (
       w .1,
-      search (needs, l .inv .1),
+      play-turn _ _ _ _ (l .inv .1) n _ (found told) k _ (called .play-entry .ensures),
       search (needs, l .inv .2),
-      play-turn (state s) (lent (l .counters) (l .rows) (l .lines)) (s .args .part .now) (l .at) (l .inv .3) n _ (found told) k _
-          (called .play-entry .ensures),
+      search (needs, l .inv .3),
     )
 
 pub play-spec : {M : Type 1} → statement M

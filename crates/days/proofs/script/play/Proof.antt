@@ -1,8 +1,10 @@
 -- `days::script::play` meets its contract. The loop keeps the three lengths; the measure is what is left of the text.
 -- Assumes nothing.
-use Prim.Native.Nat.{_≤_, _-_}
+use Prim.Native.Nat.{_+_, _≤_, _-_}
 use mathlib.Core.Path.{_≡_}
 use lib.ListN.{length}
+use mir.Syntax.{w64}
+use mir.Val.{Fits}
 use borrow.Author.Needs.{needs}
 use Rattle.days.proofs.script.play.Statement.{statement}
 use Rattle.days.proofs.script.play.Tie as tie
@@ -29,8 +31,15 @@ turn-requires c κs = search needs
 sign-requires : tie.Need-sign-requires Inv-loop μ-loop
 sign-requires c κs = search needs
 
+-- inside the loop the place is below the text's length, so that one more fits
+place-fits : (c : tie.In-loop Inv-loop μ-loop) → Fits w64 (c .before .loop .i + 1)
+place-fits c = search needs
+
+abbrev inside : tie.After-slice-known6 Inv-loop μ-loop → tie.In-loop Inv-loop μ-loop
+inside c = c .before .before .before .before .before .before .before .before .before .before .before .before .before
+
 add-i : tie.Need-add-i Inv-loop μ-loop
-add-i c = search needs
+add-i c = place-fits (inside c)
 
 loop-less : tie.Need-loop-less Inv-loop μ-loop
 loop-less c = search needs

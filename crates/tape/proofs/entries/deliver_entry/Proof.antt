@@ -1,13 +1,9 @@
 -- `tape::entries::deliver_entry` meets its contract.
 -- Assumes nothing.
-use Rattle.book.specs.State.{State, lent}
-use Rattle.tape.proofs.Plays.{message-acted, rest-all}
+use Rattle.tape.proofs.Plays.{message-acted}
 use borrow.Author.Needs.{needs}
 use Rattle.tape.proofs.entries.deliver_entry.Statement.{statement}
 use Rattle.tape.proofs.entries.deliver_entry.Tie as tie
-
-abbrev state : tie.Start → State
-state s = lent (s .args .c) (s .args .rows .now) (s .args .lines .now)
 
 number4-requires : tie.Need-number4-requires
 number4-requires c κs = search needs
@@ -37,9 +33,7 @@ returns : tie.Need-returns
 returns c =
     let called = c .before .before .before .before .before in
     let got = called .before .before .before .before in
-    let s = got .before .before .before .before in
-    let b = s .args .bytes .now in
-    message-acted (state s) b _ _ (got .number4 .ensures) (rest-all b 5) _ (called .deliver .ensures)
+    message-acted _ _ _ (got .number4 .ensures) _ (called .deliver .ensures)
 
 pub deliver-entry-spec : {M : Type 1} → statement M
 deliver-entry-spec =

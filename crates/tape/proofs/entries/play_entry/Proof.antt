@@ -1,13 +1,9 @@
 -- `tape::entries::play_entry` meets its contract.
 -- Assumes nothing.
-use Rattle.book.specs.State.{State, lent}
 use Rattle.tape.proofs.Plays.{listing-played, message-played}
 use borrow.Author.Needs.{needs}
 use Rattle.tape.proofs.entries.play_entry.Statement.{statement}
 use Rattle.tape.proofs.entries.play_entry.Tie as tie
-
-abbrev state : tie.Start → State
-state s = lent (s .args .c) (s .args .rows .now) (s .args .lines .now)
 
 byte-requires : tie.Need-byte-requires
 byte-requires c κs = search needs
@@ -26,8 +22,7 @@ returns c =
     let called = c .before .before in
     let asked = called .before .before .before in
     let read = asked .before in
-    let s = read .before .before .before .before in
-    listing-played (state s) (s .args .bytes .now) _ (read .byte .ensures) _ (asked .if1 .taken) (called .list-entry .ensures)
+    listing-played _ _ _ (read .byte .ensures) _ (asked .if1 .taken) (called .list-entry .ensures)
 
 deliver-entry-requires : tie.Need-deliver-entry-requires
 deliver-entry-requires c κs = search needs
@@ -43,8 +38,7 @@ returns-2 c =
     let called = c .before .before .before .before in
     let asked = called .before .before .before in
     let read = asked .before in
-    let s = read .before .before .before .before in
-    message-played (state s) (s .args .bytes .now) _ (read .byte .ensures) _ (asked .if1 .left) (called .deliver-entry .ensures)
+    message-played _ _ _ (read .byte .ensures) _ (asked .if1 .left) (called .deliver-entry .ensures)
 
 pub play-entry-spec : {M : Type 1} → statement M
 play-entry-spec =

@@ -1,6 +1,5 @@
 -- `wall::input::play_some` meets its contract.
 -- Assumes nothing.
-use Rattle.book.specs.State.{lent}
 use Rattle.wall.proofs.Stops.{held-fits}
 use borrow.Author.Needs.{needs}
 use Rattle.wall.proofs.input.play_some.Statement.{statement}
@@ -42,12 +41,7 @@ same-length-6 c = search needs
 returns-2 : tie.Need-returns-2
 returns-2 c =
     let called = c .before .before .before .before .before .before .before .before .before in
-    let s = called .before .before .before .before .before .before .before in
-    let a = s .args in
-    let f = called .feed in (
-      held-fits (f .result) _ _ _ (lent (a .c) (a .rows .now) (a .lines .now)) (a .n) (a .piece .now) (f .ensures) (c .match .keys2),
-      search needs,
-    )
+    (held-fits (called .feed .result) _ _ _ _ _ (called .feed .ensures) (c .match .keys2), search needs)
 
 pub play-some-spec : {M : Type 1} → statement M
 play-some-spec =
