@@ -39,7 +39,7 @@ use Rattle.walk.specs.Meaning.{Are}
 use Rattle.walk.proofs.Meaning.{figures-are, volume-fits}
 use Rattle.keys.specs.Keys.{kindIn}
 use Rattle.table.specs.Table.{isFound, isListed}
-use Rattle.take.specs.Taking.{madeLine, correctedLine, corrected, linesBy, reported, summarised, rowsBy}
+use Rattle.take.specs.Taking.{madeLine, correctedLine, corrected, linesBy, reported, summed, rowsBy}
 use Rattle.show.specs.Showing.{shownOf, nothingShown}
 use Rattle.book.specs.State.{State, Arrival, wantedIn, rowsIn, sheetOf, linesIn, soundIn}
 use Rattle.book.proofs.Demand1.{answer-taken}
@@ -124,7 +124,7 @@ module _ {A : Type 0} (f : List ℕ → A) where
   by-rows kind m r i summary report = go (isSummary kind) refl (setsVolume kind) refl
     where
       go : (j : Bool) → isSummary kind ≡ j → (t : Bool) → setsVolume kind ≡ t
-          → f (cond j (summarised m r i) (cond t (reported m r i) m)) ≡ f m
+          → f (cond j (summed m r i) (cond t (reported m r i) m)) ≡ f m
       go true j t v = report (sets-event kind (summary-sets kind j)) (withSummary m i (r .high) (r .low)) ∙ summary j
       go false j true t = report (sets-event kind t) m
       go false j false t = refl

@@ -37,8 +37,8 @@ use Rattle.book.proofs.fresh.Reads as fresh-reads
 use Rattle.book.proofs.list.Reads as list-reads
 use Rattle.book.proofs.deliver.Reads as deliver-reads
 use Rattle.book.proofs.row.Reads as row-reads
-use Rattle.clerk.specs.Steps.{Book, bookOf, content, after, next, listing}
-use Rattle.clerk.specs.Clerk.{isIn, symbolsIn, sheetFrom, sheetOf, tradesOf, answerTo, takenOf, rowOf, shownBy, bookBy, clerkBook}
+use Rattle.clerk.specs.Steps.{Book, bookOf, content, wantedDone, next, listing}
+use Rattle.clerk.specs.Clerk.{isIn, symbolsIn, sheetFrom, clerkSheet, tradesOf, answerTo, takenOf, rowOf, shownBy, bookBy, clerkBook}
 use Rattle.clerk.specs.Arrivals.{Largest, numbers, Copies, upto, deliverEach}
 use Rattle.clerk.specs.Claims.{NoRepeat, keysOf, namedIn, MadeLive, Used, usedAfter}
 use Rattle.clerk.proofs.Steps.{answer-is, deliver-step, list-step, deliver-sound, list-sound, fresh-sound}
@@ -251,7 +251,7 @@ module _ (R L : ℕ) where
     unfolding clerkBook
     clerks-says j = content-is sheet (lineLimit L) (takenOf sheet (lineLimit L) (upto day j)) (length (upto day j)) (day (suc j))
 
-    clerks-next : (j : ℕ) → after (lineLimit L) (clerks j) (day (suc j)) ≡ clerks (suc j)
+    clerks-next : (j : ℕ) → wantedDone (lineLimit L) (clerks j) (day (suc j)) ≡ clerks (suc j)
     unfolding upto
     clerks-next j = clerk-after sheet (lineLimit L) once (upto day j) (day (suc j))
 
@@ -297,7 +297,7 @@ module _ (R L : ℕ) where
             let high : k ≤ lastNumber = omega (arith, e .0 .0) in
             let copy : a .message ≡ day (suc j) = e .0 .1 low ∙ ap day i in
             let step : next (lineLimit L) (clerks j) a ≡ clerks (suc j)
-            = next-at (lineLimit L) (clerks j) a low high here ∙ ap (after (lineLimit L) (clerks j)) copy ∙ clerks-next j in
+            = next-at (lineLimit L) (clerks j) a low high here ∙ ap (wantedDone (lineLimit L) (clerks j)) copy ∙ clerks-next j in
             let before = wants s a bl bm (clerks j) h in
             let later = ap (λ (b : Book). b .wanted) step in
             let moved : eqb (r .counters .wanted) (wantedIn s) ≡ false
@@ -329,7 +329,7 @@ reads-are (a-reading κs a r x h) = h
 
 -- the book on which the sheet is finished
 pub sheet-stands : {rooms : State} {ls : List Listing} {l : List Arrival} {end : State} (h : Day rooms ls l end)
-    → Stands (length (rooms .rows)) (length (rooms .lines)) (listedBook (sheetOf (rowLimit (length (rooms .rows))) ls)) (h .ready)
+    → Stands (length (rooms .rows)) (length (rooms .lines)) (listedBook (clerkSheet (rowLimit (length (rooms .rows))) ls)) (h .ready)
 sheet-stands {rooms} h =
     lists-are (length (rooms .rows)) (length (rooms .lines)) [] (h .lists) (rw (h .started) (fresh-stands rooms))
 
@@ -344,7 +344,7 @@ module _ (day : ℕ → List ℕ) (N n : ℕ) (fits : N ≤ lastNumber) (l : Lis
   lines = rooms .lines
 
   abbrev sheet : List Listing
-  sheet = sheetOf (rowLimit (length rows)) ls
+  sheet = clerkSheet (rowLimit (length rows)) ls
 
   -- how many lines the room has
   abbrev room : ℕ
@@ -418,16 +418,16 @@ pub equal-books : (day : ℕ → List ℕ) (N n : ℕ) → N ≤ lastNumber
     → {rooms : State} {ls : List Listing} {l : List Arrival} {end : State}
     → {rooms′ : State} {ls′ : List Listing} {l′ : List Arrival} {end′ : State}
     → length (rooms .lines) ≡ length (rooms′ .lines)
-    → sheetOf (rowLimit (length (rooms .rows))) ls ≡ sheetOf (rowLimit (length (rooms′ .rows))) ls′
+    → clerkSheet (rowLimit (length (rooms .rows))) ls ≡ clerkSheet (rowLimit (length (rooms′ .rows))) ls′
     → Copies day N l → Copies day N l′ → Largest (numbers l) n → Largest (numbers l′) n → Day rooms ls l end
     → Day rooms′ ls′ l′ end′
-    → let clerks = clerkBook (sheetOf (rowLimit (length (rooms .rows))) ls) (lineLimit (length (rooms .lines))) (upto day n) in
+    → let clerks = clerkBook (clerkSheet (rowLimit (length (rooms .rows))) ls) (lineLimit (length (rooms .lines))) (upto day n) in
     (bookOf end ≡ clerks) × (bookOf end′ ≡ clerks) × (bookOf end ≡ bookOf end′)
 equal-books day N n fits {rooms} {ls} {l} {end} {rooms′} {ls′} {l′} {end′} el es c c′ g g′ h h′ =
     (one, other, one ∙ sym other)
   where
     clerks : Book
-    clerks = clerkBook (sheetOf (rowLimit (length (rooms .rows))) ls) (lineLimit (length (rooms .lines))) (upto day n)
+    clerks = clerkBook (clerkSheet (rowLimit (length (rooms .rows))) ls) (lineLimit (length (rooms .lines))) (upto day n)
 
     one : bookOf end ≡ clerks
     one = one-true-day day N n fits l c g h .1
@@ -437,7 +437,7 @@ equal-books day N n fits {rooms} {ls} {l} {end} {rooms′} {ls′} {l′} {end�
         one-true-day day N n fits l′ c′ g′ h′ .1
         ∙ sym (
         ap (λ (s : List Listing). clerkBook s (lineLimit (length (rooms .lines))) (upto day n)) es
-        ∙ ap (λ (k : ℕ). clerkBook (sheetOf (rowLimit (length (rooms′ .rows))) ls′) (lineLimit k) (upto day n)) el
+        ∙ ap (λ (k : ℕ). clerkBook (clerkSheet (rowLimit (length (rooms′ .rows))) ls′) (lineLimit k) (upto day n)) el
         )
 
 -- a book that wants another number than 1 refuses every listing

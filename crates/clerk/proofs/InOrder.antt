@@ -15,7 +15,7 @@ use Rattle.table.specs.Table.{numberTable}
 use Rattle.counters.specs.Counting.{lastNumber}
 use Rattle.book.specs.State.{Arrival, arrives}
 use Rattle.table.proofs.Tables.{number-wanted}
-use Rattle.clerk.specs.Steps.{Book, next, after, taking, usingUp, content}
+use Rattle.clerk.specs.Steps.{Book, next, wantedDone, takenInto, usingUp, content}
 use Rattle.message.specs.Reader.{readOf}
 use Rattle.clerk.specs.Arrivals.{run, Largest, numbers, Copies, upto, play, deliverEach}
 
@@ -73,7 +73,7 @@ largest-one ks n k h g = omega (arith, h .most k (g .occurs), g .most n (h .occu
 
 -- at the wanted number
 pub next-at : (limit : ℕ) (b : Book) (a : Arrival) → 1 ≤ a .number → a .number ≤ lastNumber → a .number ≡ b .wanted
-    → next limit b a ≡ after limit b (a .message)
+    → next limit b a ≡ wantedDone limit b (a .message)
 unfolding next
 next-at limit b a l h e =
     let w : given (numberTable (b .wanted) (a .number)) .number ≡ 0
@@ -88,11 +88,11 @@ next-other limit b a ne =
     = ne-eqb (given (numberTable (b .wanted) (a .number)) .number) 0 (λ e. ne (number-wanted true (b .wanted) (a .number) .0 e .wanted)) in
     rw z
 
-pub after-wanted : (limit : ℕ) (b : Book) (m : List ℕ) → after limit b m .wanted ≡ suc (b .wanted)
-unfolding after taking usingUp
+pub after-wanted : (limit : ℕ) (b : Book) (m : List ℕ) → wantedDone limit b m .wanted ≡ suc (b .wanted)
+unfolding wantedDone takenInto usingUp
 after-wanted limit b m = go (eqb (content limit b m) 0)
   where
-    go : (t : Bool) → cond t (taking (readOf m .found) b) (usingUp b) .wanted ≡ suc (b .wanted)
+    go : (t : Bool) → cond t (takenInto (readOf m .found) b) (usingUp b) .wanted ≡ suc (b .wanted)
     go true = add-one (b .wanted)
     go false = add-one (b .wanted)
 
@@ -108,7 +108,7 @@ module _ (limit : ℕ) (day : ℕ → List ℕ) (N : ℕ) (fits : N ≤ lastNumb
   play-wanted zero = fresh
   play-wanted (suc j) = after-wanted limit _ _ ∙ ap suc (play-wanted j)
 
-  play-more : (j : ℕ) → after limit (upTo j) (day (suc j)) ≡ upTo (suc j)
+  play-more : (j : ℕ) → wantedDone limit (upTo j) (day (suc j)) ≡ upTo (suc j)
   unfolding play upto
   play-more j = refl
 
@@ -130,7 +130,7 @@ module _ (limit : ℕ) (day : ℕ → List ℕ) (N : ℕ) (fits : N ≤ lastNumb
           let g : got (suc (suc j)) (numbers l) + suc j ≡ got (suc j) (k ∷ numbers l) + j = omega (arith, got-at (suc j) k (numbers l) e) in
           ap (λ (x : Book). deliverEach limit x l)
           (next-at limit (upTo j) a (omega arith) (omega (arith, c .0 .0)) (q ∙ sym (play-wanted j))
-          ∙ ap (after limit (upTo j)) (c .0 .1 (omega arith) ∙ ap day q) ∙ play-more j)
+          ∙ ap (wantedDone limit (upTo j)) (c .0 .1 (omega arith) ∙ ap day q) ∙ play-more j)
           ∙ more
           ∙ ap upTo g
       go false e more same =

@@ -27,11 +27,11 @@ rest-of : (c : Case) (cs : List Case) → NoneApplies (c ∷ cs) → NoneApplies
 rest-of c cs h d m = h d (List·Memᴰ·tail m)
 
 -- the same, case by case
-abbrev Each : List Case → Type 0
-Each [] = Unit {0}
-Each (c ∷ cs) = (c .applies ≡ false) × Each cs
+abbrev Unmet : List Case → Type 0
+Unmet [] = Unit {0}
+Unmet (c ∷ cs) = (c .applies ≡ false) × Unmet cs
 
-each-of : (cs : List Case) → NoneApplies cs → Each cs
+each-of : (cs : List Case) → NoneApplies cs → Unmet cs
 each-of [] h = tt
 each-of (c ∷ cs) h = (head-of c cs h, each-of cs (rest-of c cs h))
 

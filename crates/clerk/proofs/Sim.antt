@@ -31,8 +31,8 @@ use Rattle.answers.specs.Cases.{given}
 use Rattle.table.specs.Table.{searched, contentTable}
 use Rattle.book.specs.Calls.{listTable}
 use Rattle.take.specs.Taking.{madeLine, correctedLine}
-use Rattle.clerk.specs.Steps.{Book, lineFound, killFound, linesFor, keeping, summing, rowFound, rowsFor, taking, usingUp, content}
-use Rattle.clerk.specs.Steps.{after}
+use Rattle.clerk.specs.Steps.{Book, lineFound, killFound, linesFor, keeping, summing, changeFound, rowsFor, takenInto, usingUp, content}
+use Rattle.clerk.specs.Steps.{wantedDone}
 use Rattle.clerk.specs.Clerk.{isIn, symbolsIn, sheetFrom, Taken, phaseAfter, Origin, originOf, names, trade, made, tradesBut}
 use Rattle.clerk.specs.Clerk.{tradesOf, basisAfter, answerTo, takenOf, summaryOf, reportedOf, rowOf, bookBy, clerkBook}
 use Rattle.clerk.specs.Arrivals.{play}
@@ -281,7 +281,7 @@ unfolding rowOf
 sheet-is es [] = refl
 sheet-is es (l ∷ sheet) = ap {B = List Listing} (λ x. l ∷ x) (sheet-is es sheet)
 
-row-up : (change : Row → Row) (w : Row) (ws : List Row) (f : Found) → rowFound change (w ∷ ws) (up f) ≡ w ∷ rowFound change ws f
+row-up : (change : Row → Row) (w : Row) (ws : List Row) (f : Found) → changeFound change (w ∷ ws) (up f) ≡ w ∷ changeFound change ws f
 row-up change w ws Nothing = refl
 row-up change w ws (At i) = refl
 
@@ -295,18 +295,18 @@ module _ (r : Record) (change : Row → Row) (g h : Listing → Row)
       ap₂ {C = List Row} (λ a b. a ∷ b) (miss l (or-false-left (same (l .symbol) (r .symbol)) _ d))
       (others sheet (or-false-right (same (l .symbol) (r .symbol)) _ d))
 
-  row-step : (sheet : List Listing) → NoRepeat (symbolsIn sheet) → rowFound change (map g sheet) (listingOf (r .symbol) sheet) ≡ map h sheet
+  row-step : (sheet : List Listing) → NoRepeat (symbolsIn sheet) → changeFound change (map g sheet) (listingOf (r .symbol) sheet) ≡ map h sheet
   unfolding first
   row-step [] d = refl
   row-step (l ∷ sheet) d = go (same (l .symbol) (r .symbol)) refl (row-step sheet (d .1))
     where
-      go : (t : Bool) → same (l .symbol) (r .symbol) ≡ t → rowFound change (map g sheet) (listingOf (r .symbol) sheet) ≡ map h sheet
-          → rowFound change (g l ∷ map g sheet) (listingOf (r .symbol) (l ∷ sheet)) ≡ h l ∷ map h sheet
+      go : (t : Bool) → same (l .symbol) (r .symbol) ≡ t → changeFound change (map g sheet) (listingOf (r .symbol) sheet) ≡ map h sheet
+          → changeFound change (g l ∷ map g sheet) (listingOf (r .symbol) (l ∷ sheet)) ≡ h l ∷ map h sheet
       go true t i =
-          ap (rowFound change (g l ∷ map g sheet)) (first-hit (isOf (r .symbol)) l sheet t)
+          ap (changeFound change (g l ∷ map g sheet)) (first-hit (isOf (r .symbol)) l sheet t)
           ∙ ap₂ {C = List Row} (λ a b. a ∷ b) (hit l t) (others sheet (rw (same-is (l .symbol) (r .symbol) .0 t) at (d .0)))
       go false t i =
-          ap (rowFound change (g l ∷ map g sheet)) (first-miss (isOf (r .symbol)) l sheet t)
+          ap (changeFound change (g l ∷ map g sheet)) (first-miss (isOf (r .symbol)) l sheet t)
           ∙ row-up change (g l) (map g sheet) (listingOf (r .symbol) sheet)
           ∙ ap₂ {C = List Row} (λ a b. a ∷ b) (miss l t) i
 
@@ -343,7 +343,7 @@ module _ (n : ℕ) (r : Record) (es : List Taken) where
       in-row : (change : Row → Row) → ((l : Listing)
           → (same (l .symbol) (r .symbol) ≡ true → change (before l) ≡ behind l)
           × (same (l .symbol) (r .symbol) ≡ false → before l ≡ behind l))
-          → rowFound change (map before sheet) (listingOf (r .symbol) (sheetIn (map before sheet))) ≡ map behind sheet
+          → changeFound change (map before sheet) (listingOf (r .symbol) (sheetIn (map before sheet))) ≡ map behind sheet
       in-row change k = rw (sheet-is es sheet) (row-step r change before behind (λ l. k l .0) (λ l. k l .1) sheet d)
 
       go : (j : Bool) → summaryIn r ≡ j → (t : Bool) → setsIn r ≡ t → rowsFor (kindIn r) r (map before sheet) ≡ map behind sheet
@@ -400,8 +400,8 @@ module _ (sheet : List Listing) (limit : ℕ) where
     abbrev more : List Taken
     more = record { number = suc n; message = readOf m .found } ∷ es
 
-    taking-is : taking (readOf m .found) (bookBy sheet es n) ≡ bookBy sheet more (suc n)
-    unfolding taking bookBy
+    taking-is : takenInto (readOf m .found) (bookBy sheet es n) ≡ bookBy sheet more (suc n)
+    unfolding takenInto bookBy
     taking-is =
         let r = readOf m .found in
         rw (
@@ -413,18 +413,18 @@ module _ (sheet : List Listing) (limit : ℕ) where
           sym (lines-count (suc n) r es),
         )
 
-    after-is : after limit (bookBy sheet es n) m ≡ bookBy sheet (cond (eqb (answerTo sheet limit es m) 0) more es) (suc n)
-    unfolding after usingUp bookBy
+    after-is : wantedDone limit (bookBy sheet es n) m ≡ bookBy sheet (cond (eqb (answerTo sheet limit es m) 0) more es) (suc n)
+    unfolding wantedDone usingUp bookBy
     after-is = rw (content-is es n m) (go (eqb (answerTo sheet limit es m) 0))
       where
         go : (t : Bool)
-            → cond t (taking (readOf m .found) (bookBy sheet es n)) (usingUp (bookBy sheet es n)) ≡ bookBy sheet (cond t more es) (suc n)
+            → cond t (takenInto (readOf m .found) (bookBy sheet es n)) (usingUp (bookBy sheet es n)) ≡ bookBy sheet (cond t more es) (suc n)
         go true = taking-is
         go false = rw (add-one (suc n))
 
   -- his book after one more used message is what the step makes of his book before it
   pub clerk-after : NoRepeat (symbolsIn sheet) → (ms : List (List ℕ)) (m : List ℕ)
-      → after limit (clerkBook sheet limit ms) m ≡ clerkBook sheet limit (m ∷ ms)
+      → wantedDone limit (clerkBook sheet limit ms) m ≡ clerkBook sheet limit (m ∷ ms)
   unfolding clerkBook takenOf
   clerk-after d ms m = after-is d (takenOf sheet limit ms) (length ms) m (one-trade-per-key ms)
 
@@ -433,7 +433,7 @@ module _ (sheet : List Listing) (limit : ℕ) where
       → play limit b ms ≡ clerkBook sheet limit ms
   unfolding play
   plays d b e [] = e
-  plays d b e (m ∷ ms) = ap (λ (x : Book). after limit x m) (plays d b e ms) ∙ clerk-after d ms m
+  plays d b e (m ∷ ms) = ap (λ (x : Book). wantedDone limit x m) (plays d b e ms) ∙ clerk-after d ms m
 
 -- ---- from the listed sheet
 

@@ -47,7 +47,7 @@ use Rattle.book.specs.Calls as Calls
 use Rattle.book.proofs.Demand1.{refused-keeps, answer-content}
 use Rattle.book.proofs.Touches.{touches-only, made-fits, corrected-fits}
 use Rattle.clerk.specs.Messages.{eventIn, summaryIn, setsIn, namesIn, makesIn}
-use Rattle.clerk.specs.Steps.{Book, bookOf, linesFor, keeping, summing, rowsFor, taking, usingUp, content, after, next, listing}
+use Rattle.clerk.specs.Steps.{Book, bookOf, linesFor, keeping, summing, rowsFor, takenInto, usingUp, content, wantedDone, next, listing}
 use Rattle.clerk.proofs.Passing.{Passed, passed, listable}
 
 -- ---- what a search found
@@ -219,7 +219,7 @@ module _ (s : State) (a : Arrival) (safe : soundIn s ≡ true) where
   data Ended : Type 0 where
     left : delivered s a .state ≡ s → next limit b a ≡ b → Ended
     over : wantedIn s ≤ lastNumber → delivered s a .state ≡ spent s → next limit b a ≡ usingUp b → Ended
-    took : wantedIn s ≤ lastNumber → Passed (basisOf s) r → delivered s a .state ≡ Calls.taking s r → next limit b a ≡ taking r b → Ended
+    took : wantedIn s ≤ lastNumber → Passed (basisOf s) r → delivered s a .state ≡ Calls.taking s r → next limit b a ≡ takenInto r b → Ended
 
   wanted-here : given (numberTable (wantedIn s) (a .number)) .number ≡ 0 → Wanted true (wantedIn s) (a .number)
   wanted-here e = number-wanted true (wantedIn s) (a .number) .0 e
@@ -232,7 +232,7 @@ module _ (s : State) (a : Arrival) (safe : soundIn s ≡ true) where
   unfolding content bookOf
   answer-is w = ap (λ (x : Case). x .number) (answer-content s a (in-book w))
 
-  after-is : given (numberTable (wantedIn s) (a .number)) .number ≡ 0 → next limit b a ≡ after limit b (a .message)
+  after-is : given (numberTable (wantedIn s) (a .number)) .number ≡ 0 → next limit b a ≡ wantedDone limit b (a .message)
   unfolding next bookOf
   after-is e = rw e
 
@@ -248,7 +248,7 @@ module _ (s : State) (a : Arrival) (safe : soundIn s ≡ true) where
 
   -- under the wanted number
   used : (t : Bool) → eqb (content limit b (a .message)) 0 ≡ t → given (numberTable (wantedIn s) (a .number)) .number ≡ 0 → Ended
-  unfolding after content bookOf
+  unfolding wantedDone content bookOf
   used true t e =
       let w = wanted-here e in
       let z = eqb-true (content limit b (a .message)) 0 t in
@@ -296,8 +296,8 @@ module _ (s : State) (safe : soundIn s ≡ true) where
 
   -- a taken message: rows, lines and counters move together
   took-step : (m : List ℕ) → Bytes (s .lines) → Bytes m → wantedIn s ≤ lastNumber → Passed (basisOf s) (readOf m .found)
-      → bookOf (Calls.taking s (readOf m .found)) ≡ taking (readOf m .found) (bookOf s)
-  unfolding bookOf taking
+      → bookOf (Calls.taking s (readOf m .found)) ≡ takenInto (readOf m .found) (bookOf s)
+  unfolding bookOf takenInto
   took-step m bl bm f p =
       let r = readOf m .found in
       let fits = read-fits m bm in

@@ -33,11 +33,11 @@ use Rattle.clerk.proofs.Sim.{sheet-is}
 use Rattle.clerk.proofs.Once.{clerk-figures-one}
 
 -- the row that was found
-abbrev rowFound : List Row → Found → Row
-rowFound ws Nothing = noRow
-rowFound ws (At i) = getD ws i noRow
+abbrev foundRow : List Row → Found → Row
+foundRow ws Nothing = noRow
+foundRow ws (At i) = getD ws i noRow
 
-found-up : (w : Row) (ws : List Row) (f : Found) → rowFound (w ∷ ws) (up f) ≡ rowFound ws f
+found-up : (w : Row) (ws : List Row) (f : Found) → foundRow (w ∷ ws) (up f) ≡ foundRow ws f
 found-up w ws Nothing = refl
 found-up w ws (At i) = refl
 
@@ -61,7 +61,7 @@ on-sheet sheet l m = go (isIn (l .symbol) (symbolsIn sheet)) refl
 
 -- the first row of a listed symbol is its own
 found-row : (es : List Taken) (sheet : List Listing) (l : Listing) → NoRepeat (symbolsIn sheet) → List·Memᴰ l sheet
-    → rowFound (map (rowOf es) sheet) (listingOf (l .symbol) sheet) ≡ rowOf es l
+    → foundRow (map (rowOf es) sheet) (listingOf (l .symbol) sheet) ≡ rowOf es l
 found-row es [] l d m = absurd (List·Memᴰ·not-nil m)
 found-row es (x ∷ sheet) l d m =
     ⊎-elim (λ (q : l ≡ x). here q)
@@ -71,16 +71,16 @@ found-row es (x ∷ sheet) l d m =
     ws : List Row
     ws = map (rowOf es) sheet
 
-    here : l ≡ x → rowFound (rowOf es x ∷ ws) (listingOf (l .symbol) (x ∷ sheet)) ≡ rowOf es l
+    here : l ≡ x → foundRow (rowOf es x ∷ ws) (listingOf (l .symbol) (x ∷ sheet)) ≡ rowOf es l
     here q =
         let e : same (x .symbol) (l .symbol) ≡ true = ap (λ (y : Listing). same (y .symbol) (l .symbol)) (sym q) ∙ same-refl (l .symbol) in
-        ap (rowFound (rowOf es x ∷ ws)) (first-hit (isOf (l .symbol)) x sheet e) ∙ ap (rowOf es) (sym q)
+        ap (foundRow (rowOf es x ∷ ws)) (first-hit (isOf (l .symbol)) x sheet e) ∙ ap (rowOf es) (sym q)
 
-    there : List·Memᴰ l sheet → rowFound ws (listingOf (l .symbol) sheet) ≡ rowOf es l
-        → rowFound (rowOf es x ∷ ws) (listingOf (l .symbol) (x ∷ sheet)) ≡ rowOf es l
+    there : List·Memᴰ l sheet → foundRow ws (listingOf (l .symbol) sheet) ≡ rowOf es l
+        → foundRow (rowOf es x ∷ ws) (listingOf (l .symbol) (x ∷ sheet)) ≡ rowOf es l
     there t i =
         let e : same (x .symbol) (l .symbol) ≡ false = same-comm (x .symbol) (l .symbol) ∙ other-symbol (x .symbol) sheet l (d .0) t in
-        ap (rowFound (rowOf es x ∷ ws)) (first-miss (isOf (l .symbol)) x sheet e)
+        ap (foundRow (rowOf es x ∷ ws)) (first-miss (isOf (l .symbol)) x sheet e)
         ∙ found-up (rowOf es x) ws (listingOf (l .symbol) sheet) ∙ i
 
 -- ---- what is told
@@ -117,9 +117,9 @@ module _ (s : State) (safe : soundIn s ≡ true) (sheet : List Listing) (es : Li
       same-row q =
           let w : q .row ≡ rowOf es l
           = q .first .2
-          ∙ ap (rowFound (rowsIn s)) (sym (q .first .1))
-          ∙ ap (λ (x : List Listing). rowFound (rowsIn s) (listingOf (l .symbol) x)) the-sheet
-          ∙ ap (λ (x : List Row). rowFound x (listingOf (l .symbol) sheet)) theRows
+          ∙ ap (foundRow (rowsIn s)) (sym (q .first .1))
+          ∙ ap (λ (x : List Listing). foundRow (rowsIn s) (listingOf (l .symbol) x)) the-sheet
+          ∙ ap (λ (x : List Row). foundRow x (listingOf (l .symbol) sheet)) theRows
           ∙ found-row es sheet l d m in
           let a : Are (l .symbol) (tradesOf es) (q .figures)
           = subst (λ (x : List Line). Are (l .symbol) x (q .figures)) theLines (q .mean) in

@@ -4,7 +4,7 @@ use Prim.Native.Nat.{ℕ, zero, suc, _≤_}
 use mathlib.Core.Path.{_≡_}
 use mathlib.Core.List.{List, [], _∷_, map, Sublistᴰ}
 use Rattle.book.specs.State.{Arrival}
-use Rattle.clerk.specs.Steps.{Book, after, next}
+use Rattle.clerk.specs.Steps.{Book, wantedDone, next}
 
 -- the n numbers from a on
 unfoldable pub run : ℕ → ℕ → List ℕ
@@ -32,7 +32,7 @@ upto day (suc n) = day (suc n) ∷ upto day n
 -- a book after these used messages, the newest first
 unfoldable pub play : ℕ → Book → List (List ℕ) → Book
 play limit b [] = b
-play limit b (m ∷ ms) = after limit (play limit b ms) m
+play limit b (m ∷ ms) = wantedDone limit (play limit b ms) m
 
 -- each arrival delivered as it comes
 unfoldable pub deliverEach : ℕ → Book → List Arrival → Book

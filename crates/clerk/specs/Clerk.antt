@@ -44,8 +44,8 @@ sheetFrom limit sheet [] = sheet
 sheetFrom limit sheet (l ∷ ls) =
     sheetFrom limit (cond (eqb (given (listTable 1 sheet limit l) .number) 0) (sheet ++ (l ∷ [])) sheet) ls
 
-abbrev pub sheetOf : ℕ → List Listing → List Listing
-sheetOf limit ls = sheetFrom limit [] ls
+abbrev pub clerkSheet : ℕ → List Listing → List Listing
+clerkSheet limit ls = sheetFrom limit [] ls
 
 -- ---- the taken messages
 

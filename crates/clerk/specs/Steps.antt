@@ -80,13 +80,13 @@ abbrev pub summing : Record → Row → Row
 summing r w = keeping r (summarised (r .high) (r .low) w)
 
 -- the row that was found changed
-abbrev pub rowFound : (Row → Row) → List Row → Found → List Row
-rowFound change rs Nothing = rs
-rowFound change rs (At i) = set rs i (change (getD rs i noRow))
+abbrev pub changeFound : (Row → Row) → List Row → Found → List Row
+changeFound change rs Nothing = rs
+changeFound change rs (At i) = set rs i (change (getD rs i noRow))
 
 -- the first row of the message's symbol changed
 abbrev pub inItsRow : (Row → Row) → Record → List Row → List Row
-inItsRow change r rs = rowFound change rs (listingOf (r .symbol) (sheetIn rs))
+inItsRow change r rs = changeFound change rs (listingOf (r .symbol) (sheetIn rs))
 
 -- the rows after a message of a type
 unfoldable pub rowsFor : Kind → Record → List Row → List Row
@@ -96,8 +96,8 @@ rowsFor kind r rs =
     -- T, X and C
     (cond (setsVolume kind) (inItsRow (keeping r) r rs) rs)
 
-unfoldable pub taking : Record → Book → Book
-taking r b =
+unfoldable pub takenInto : Record → Book → Book
+takenInto r b =
     record {
       wanted = b .wanted + 1;
       phase = cond (eventIn r) (phaseOf (r .event)) (b .phase);
@@ -132,12 +132,12 @@ unfoldable pub content : ℕ → Book → List ℕ → ℕ
 content limit b m = given (contentTable (basisBy limit b) (readOf m)) .number
 
 -- the wanted message: taken, or its number used up
-unfoldable pub after : ℕ → Book → List ℕ → Book
-after limit b m = cond (eqb (content limit b m) 0) (taking (readOf m .found) b) (usingUp b)
+unfoldable pub wantedDone : ℕ → Book → List ℕ → Book
+wantedDone limit b m = cond (eqb (content limit b m) 0) (takenInto (readOf m .found) b) (usingUp b)
 
 -- a message under any number
 unfoldable pub next : ℕ → Book → Arrival → Book
-next limit b a = cond (eqb (given (numberTable (b .wanted) (a .number)) .number) 0) (after limit b (a .message)) b
+next limit b a = cond (eqb (given (numberTable (b .wanted) (a .number)) .number) 0) (wantedDone limit b (a .message)) b
 
 -- the answer to a listing; `limit` is how many rows the room has
 abbrev pub listAnswerBy : ℕ → Book → Listing → ℕ

@@ -10,7 +10,7 @@ use lib.Seq.{take-append-seam}
 use Rattle.octets.proofs.Laws.{sets-front}
 use Rattle.tape.specs.declared.Stop.the-variants.{NoKind}
 use Rattle.book.specs.State.{State}
-use Rattle.tape.specs.Playing.{played, Held, feed}
+use Rattle.tape.specs.Playing.{played, Holding, feed}
 use Rattle.tape.proofs.Pieces.{kept-short}
 use Rattle.feed.specs.Feeding.{leftOver, fed}
 
@@ -23,13 +23,13 @@ front-held s n piece =
     ap (take (length left)) (sets-front left piece k) ∙ take-append-seam left (drop (length left) piece)
 
 -- where the first n bytes are what was left over before, and then new ones: what a call leaves is what feeding the new ones leaves
-pub record FeedsOn (h : Held) (new : List ℕ) (n : ℕ) (piece : List ℕ) : Type 0 where
+pub record FeedsOn (h : Holding) (new : List ℕ) (n : ℕ) (piece : List ℕ) : Type 0 where
   pub state : fed (h .so .state) n piece .play .state ≡ feed h new .so .state
   pub used : h .so .used + fed (h .so .state) n piece .play .used ≡ feed h new .so .used
   pub stop : fed (h .so .state) n piece .play .stop ≡ feed h new .so .stop
   pub front : take (fed (h .so .state) n piece .held) (fed (h .so .state) n piece .piece) ≡ feed h new .left
 
-pub feeds-on : (h : Held) (new : List ℕ) (n : ℕ) (piece : List ℕ) → take n piece ≡ h .left ++ new → FeedsOn h new n piece
+pub feeds-on : (h : Holding) (new : List ℕ) (n : ℕ) (piece : List ℕ) → take n piece ≡ h .left ++ new → FeedsOn h new n piece
 unfolding fed feed
 feeds-on h new n piece e =
     record {

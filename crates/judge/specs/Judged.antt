@@ -6,7 +6,7 @@ use mathlib.Core.List.{List}
 use mathlib.Core.Bool.{Bool, true, false, _&&_}
 use mathlib.Core.Option.{Option, none, some}
 use Rattle.layout.specs.Forms.{inside, keeps}
-use Rattle.layout.specs.Tables.{Entry, fieldOf, formOf, Layout, allFrom}
+use Rattle.layout.specs.Tables.{Item, fieldOf, formOf, Layout, allFrom}
 use Rattle.records.specs.declared.Record.{Record}
 use Rattle.records.specs.Held.{holds, kept, lawful}
 use Rattle.rules.specs.Rules as Rules
@@ -27,7 +27,7 @@ lawfulOf r = lawfulIn (layoutBy (r .letter)) r
 -- ---- in pieces, as the code asks them
 
 -- the rules of the fields of some lines of a table
-abbrev pub rulesOf : List Entry → Record → Bool
+abbrev pub rulesOf : List Item → Record → Bool
 rulesOf es r = allFrom (λ e. keeps (formOf e) (holds r (fieldOf e))) true es
 
 -- the rules of a trade, behind other tests: control, price, size, condition

@@ -14,8 +14,8 @@ use Rattle.numbers.specs.Number.{beAfter, be}
 use Rattle.numbers.proofs.Trips.{digits-part}
 use Rattle.layout.specs.Values.{Field, isZero, is}
 use Rattle.layout.specs.Forms.{Form, byte, big, chars, reads, writes}
-use Rattle.layout.specs.Tables.{Entry, at, fieldOf, widthOf, formOf, stands, look, written, allFrom}
-use Rattle.layout.specs.Carrying.{alike, moved, fetch, carried, run, runs, clear}
+use Rattle.layout.specs.Tables.{Item, at, fieldOf, widthOf, formOf, stands, look, written, allFrom}
+use Rattle.layout.specs.Carrying.{alike, moved, fetch, carried, runOf, runs, clear}
 use Rattle.layout.proofs.Forms.{both, clash}
 use Rattle.layout.proofs.Tables.{zero-is}
 
@@ -35,7 +35,7 @@ module _ (m : List ℕ) (b : Bytes m) where
   copied (chars p) w (big q) o n a = clash a
   copied (chars p) w (chars q) o n a = refl
 
-  one : (j : Form) (w : ℕ) (e : Entry) → moved j w e m ≡ writes j w (stands e m)
+  one : (j : Form) (w : ℕ) (e : Item) → moved j w e m ≡ writes j w (stands e m)
   one j w (at g o n k) = go (alike j w k n) refl
     where
       go : (t : Bool) → alike j w k n ≡ t
@@ -43,7 +43,7 @@ module _ (m : List ℕ) (b : Bytes m) where
       go true e = rw e (copied j w k o n e)
       go false e = rw e
 
-  fetched : (from : List Entry) (j : Form) (w : ℕ) (f : Field) → fetch from m j w f ≡ writes j w (look from m f)
+  fetched : (from : List Item) (j : Form) (w : ℕ) (f : Field) → fetch from m j w f ≡ writes j w (look from m f)
   fetched [] j w f = refl
   fetched (e ∷ es) j w f = go (is f (fieldOf e)) refl (fetched es j w f)
     where
@@ -52,7 +52,7 @@ module _ (m : List ℕ) (b : Bytes m) where
       go true q r = rw q (one j w e)
       go false q r = rw q r
 
-  pub carries : (to from : List Entry) → carried to from m ≡ written to (look from m)
+  pub carries : (to from : List Item) → carried to from m ≡ written to (look from m)
   carries [] from = refl
   carries (e ∷ es) from = ap₂ {C = List ℕ} (λ x y. x ++ y) (fetched from (formOf e) (widthOf e) (fieldOf e)) (carries es from)
 
@@ -82,15 +82,15 @@ module _ (b : List ℕ) where
   byte-zero o n e = rw (eqb-true n 1 e) (sym (and-true (eqb (getD b (o + 0) 0) 0)))
 
   -- a field is zero exactly if its bytes are
-  found-zero : (g : Field) (o n : ℕ) (k : Form) (es : List Entry) (f : Field) → isZero (reads k (part b o n)) ≡ all 0 (part b o n)
-      → isZero (look es b f) ≡ all 0 (run es b f) → isZero (look (at g o n k ∷ es) b f) ≡ all 0 (run (at g o n k ∷ es) b f)
+  found-zero : (g : Field) (o n : ℕ) (k : Form) (es : List Item) (f : Field) → isZero (reads k (part b o n)) ≡ all 0 (part b o n)
+      → isZero (look es b f) ≡ all 0 (runOf es b f) → isZero (look (at g o n k ∷ es) b f) ≡ all 0 (runOf (at g o n k ∷ es) b f)
   found-zero g o n k es f y r = go (is f g) refl
     where
-      go : (t : Bool) → is f g ≡ t → isZero (look (at g o n k ∷ es) b f) ≡ all 0 (run (at g o n k ∷ es) b f)
+      go : (t : Bool) → is f g ≡ t → isZero (look (at g o n k ∷ es) b f) ≡ all 0 (runOf (at g o n k ∷ es) b f)
       go true e = rw e y
       go false e = rw e r
 
-  run-zero : (es : List Entry) (f : Field) → clear es ≡ true → isZero (look es b f) ≡ all 0 (run es b f)
+  run-zero : (es : List Item) (f : Field) → clear es ≡ true → isZero (look es b f) ≡ all 0 (runOf es b f)
   run-zero [] f c = zero-is f
   run-zero (at g o n (byte p) ∷ es) f c =
       let q = both c in
@@ -99,11 +99,11 @@ module _ (b : List ℕ) where
   run-zero (at g o n (chars p) ∷ es) f c = found-zero g o n (chars p) es f refl (run-zero es f c)
 
   -- several fields are, exactly if their bytes together are
-  pub runs-zero : (es : List Entry) (t : Bool) (fs : List Field) → clear es ≡ true
+  pub runs-zero : (es : List Item) (t : Bool) (fs : List Field) → clear es ≡ true
       → allFrom (λ f. isZero (look es b f)) t fs ≡ t && all 0 (runs es b fs)
   runs-zero es t [] c = sym (and-true t)
   runs-zero es t (f ∷ fs) c =
       runs-zero es (t && isZero (look es b f)) fs c
       ∙ ap (λ (x : Bool). t && x && all 0 (runs es b fs)) (run-zero es f c)
-      ∙ and-assoc t (all 0 (run es b f)) (all 0 (runs es b fs))
-      ∙ ap (λ (x : Bool). t && x) (sym (all-both 0 (run es b f) (runs es b fs)))
+      ∙ and-assoc t (all 0 (runOf es b f)) (all 0 (runs es b fs))
+      ∙ ap (λ (x : Bool). t && x) (sym (all-both 0 (runOf es b f) (runs es b fs)))

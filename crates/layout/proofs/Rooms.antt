@@ -15,7 +15,7 @@ use Rattle.numbers.specs.Number.{be}
 use Rattle.numbers.proofs.Laws.{be-below}
 use Rattle.layout.specs.Values.{Field, Value, number, text, Room, octet, num, txt, roomOf, typed, Typed, zeroIn, is}
 use Rattle.layout.specs.Forms.{Form, byte, big, chars, reads, narrow}
-use Rattle.layout.specs.Tables.{Entry, at, look, allNarrow}
+use Rattle.layout.specs.Tables.{Item, at, look, allNarrow}
 use Rattle.layout.proofs.Forms.{both, clash, zero-typed}
 use Rattle.layout.proofs.Tables.{same-field}
 
@@ -31,7 +31,7 @@ module _ (m : List ℕ) (b : Bytes m) where
   one-typed (chars p) o n (num c) e = clash e
   one-typed (chars p) o n (txt c) e = eq-eqb (length (part m o n)) c (part-length m o n ∙ sym (eqb-true c n e))
 
-  pub look-typed : (es : List Entry) → allNarrow es ≡ true → Typed (look es m)
+  pub look-typed : (es : List Item) → allNarrow es ≡ true → Typed (look es m)
   look-typed [] e f = zero-typed (roomOf f)
   look-typed (at g o n k ∷ es) e f =
       let p = both e in
@@ -71,7 +71,7 @@ module _ (m : List ℕ) (b : Bytes m) where
   one-bytes (chars p) o n (txt c) e = part-bytes m o n b
 
   -- by any table
-  pub look-bytes : (es : List Entry) → allNarrow es ≡ true → (f : Field) → OfBytes (roomOf f) (look es m f)
+  pub look-bytes : (es : List Item) → allNarrow es ≡ true → (f : Field) → OfBytes (roomOf f) (look es m f)
   look-bytes [] e f = zero-bytes (roomOf f)
   look-bytes (at g o n k ∷ es) e f =
       let p = both e in

@@ -17,7 +17,7 @@ use Rattle.layout.specs.Values.{newPrice, newSize, newCondition, high, l
 use Rattle.layout.specs.Values.{isText, isZero, Room, octet, num, txt, roomOf, typed, Typed, sized, Sized, zeroIn, zeroOf}
 use Rattle.layout.specs.Values.{allFields, placeOf, is}
 use Rattle.layout.specs.Forms.{Form, byte, big, chars, reads, writes, keeps, spells, plain, fits, suits}
-use Rattle.layout.specs.Tables.{Entry, at, Layout, fieldOf, offsetOf, widthOf, formOf, lacks, distinct, follows, total, isByte}
+use Rattle.layout.specs.Tables.{Item, at, Layout, fieldOf, offsetOf, widthOf, formOf, lacks, distinct, follows, total, isByte}
 use Rattle.layout.specs.Tables.{marks, tiles, bytesAt, stands, look, written, Each, without, lacked, Obeys, Lawful, allFrom}
 use Rattle.layout.specs.Tables.{keptBy, lawfulBy, fitsBy, speltBy, plainBy, obeysBy}
 use Rattle.layout.proofs.Forms.{both, clash, form-length, form-back, form-again, form-kind, form-fits, form-spells, form-sized}
@@ -103,7 +103,7 @@ other f g e = not-true (is f g) e
 -- ---- what a message says of each entry's field is what stands there, if no field is there twice
 
 module _ (m : List ℕ) where
-  skip : (e : Entry) (rest es : List Entry) → lacks (fieldOf e) es ≡ true → Each (λ d. look rest m (fieldOf d) ≡ stands d m) es
+  skip : (e : Item) (rest es : List Item) → lacks (fieldOf e) es ≡ true → Each (λ d. look rest m (fieldOf d) ≡ stands d m) es
       → Each (λ d. look (e ∷ rest) m (fieldOf d) ≡ stands d m) es
   skip e rest [] n h = tt
   skip e rest (d ∷ es) n h =
@@ -118,7 +118,7 @@ module _ (m : List ℕ) where
           go false q = q
           go true q = clash (sym e ∙ rw (same-field g f q) (self f))
 
-  found : (es : List Entry) → distinct es ≡ true → Each (λ e. look es m (fieldOf e) ≡ stands e m) es
+  found : (es : List Item) → distinct es ≡ true → Each (λ e. look es m (fieldOf e) ≡ stands e m) es
   found [] d = tt
   found (e ∷ es) d =
       let p = both d in
@@ -135,7 +135,7 @@ module _ (m : List ℕ) where
   unfolding roomOf
   octet-room g k n i s = ap (λ (f : Field). suits k n (roomOf f)) (same-field letter g i) ∙ s
 
-  marked : (es : List Entry) (o w : ℕ) → follows w es ≡ true → marks o es ≡ true → look es m letter ≡ number (getD m o 0)
+  marked : (es : List Item) (o w : ℕ) → follows w es ≡ true → marks o es ≡ true → look es m letter ≡ number (getD m o 0)
   marked [] o w f e = clash e
   marked (at g a n k ∷ es) o w f e =
       let q = both f in
@@ -152,7 +152,7 @@ module _ (m : List ℕ) where
 -- ---- (a) read, then written
 
 module _ (m : List ℕ) (b : Bytes m) (v : Values) where
-  again : (es : List Entry) (o : ℕ) → follows o es ≡ true → allFrom (λ e. plain (formOf e) (bytesAt e m)) true es ≡ true
+  again : (es : List Item) (o : ℕ) → follows o es ≡ true → allFrom (λ e. plain (formOf e) (bytesAt e m)) true es ≡ true
       → Each (λ e. v (fieldOf e) ≡ stands e m) es → written es v ≡ part m o (total es)
   unfolding part tab
   again [] o f t h = refl
@@ -168,11 +168,11 @@ module _ (m : List ℕ) (b : Bytes m) (v : Values) where
 -- ---- (b) written, then read
 
 module _ (v : Values) where
-  abbrev fit : Entry → Bool
+  abbrev fit : Item → Bool
   fit e = fits (formOf e) (widthOf e) (v (fieldOf e))
 
   -- an entry's bytes are where they were written, and the rest stands behind them
-  placed : (m : List ℕ) (g : Field) (a n : ℕ) (k : Form) (es : List Entry) (o : ℕ) → follows o (at g a n k ∷ es) ≡ true
+  placed : (m : List ℕ) (g : Field) (a n : ℕ) (k : Form) (es : List Item) (o : ℕ) → follows o (at g a n k ∷ es) ≡ true
       → fits k n (v g) ≡ true
       → drop o m ≡ written (at g a n k ∷ es) v → (part m a n ≡ writes k n (v g)) × (drop (o + n) m ≡ written es v)
   placed m g a n k es o s t d =
@@ -181,7 +181,7 @@ module _ (v : Values) where
       let l : length (writes k n (v g)) ≡ n = form-length k n (v g) (roomOf g) (q .1) t in
       (rw e (here m o n (writes k n (v g)) (written es v) d l), walk m o n (o + n) (writes k n (v g)) (written es v) d l refl)
 
-  back : (m : List ℕ) (f : Field) (es : List Entry) (o : ℕ) → follows o es ≡ true → allFrom fit true es ≡ true → drop o m ≡ written es v
+  back : (m : List ℕ) (f : Field) (es : List Item) (o : ℕ) → follows o es ≡ true → allFrom fit true es ≡ true → drop o m ≡ written es v
       → (lacks f es ≡ true → zeroOf f ≡ v f) → look es m f ≡ v f
   back m f [] o s t d z = z refl
   back m f (at g a n k ∷ es) o s t d z =
@@ -198,7 +198,7 @@ module _ (v : Values) where
       go false e y r = rw e (r (λ h. z (rw e h)))
 
   -- what is written is spelt
-  passes : (m : List ℕ) (es : List Entry) (o : ℕ) → follows o es ≡ true → allFrom fit true es ≡ true → drop o m ≡ written es v
+  passes : (m : List ℕ) (es : List Item) (o : ℕ) → follows o es ≡ true → allFrom fit true es ≡ true → drop o m ≡ written es v
       → allFrom (λ e. spells (formOf e) (bytesAt e m)) true es ≡ true
   passes m [] o s t d = refl
   passes m (at g a n k ∷ es) o s t d =
@@ -209,7 +209,7 @@ module _ (v : Values) where
       let y : spells k (part m a n) ≡ true = ap (spells k) (x .0) ∙ form-spells k n (v g) (roomOf g) (q .1) (u .0) in
       rw y (passes m es (o + n) (p .1) (u .1) (x .1))
 
-  written-length : (es : List Entry) (o : ℕ) → follows o es ≡ true → Sized v → length (written es v) ≡ total es
+  written-length : (es : List Item) (o : ℕ) → follows o es ≡ true → Sized v → length (written es v) ≡ total es
   written-length [] o s y = refl
   written-length (at g a n k ∷ es) o s y =
       let p = both s in
@@ -217,7 +217,7 @@ module _ (v : Values) where
       simp (length-append, form-sized k n (v g) (roomOf g) (q .1) (y g), written-length es (o + n) (p .1) y)
 
   -- what keeps its rules has room
-  fit-all : (es : List Entry) (o : ℕ) → follows o es ≡ true → Typed v → allFrom (λ e. keeps (formOf e) (v (fieldOf e))) true es ≡ true
+  fit-all : (es : List Item) (o : ℕ) → follows o es ≡ true → Typed v → allFrom (λ e. keeps (formOf e) (v (fieldOf e))) true es ≡ true
       → allFrom fit true es ≡ true
   fit-all [] o s y k = refl
   fit-all (at g a n k ∷ es) o s y t =
@@ -228,14 +228,14 @@ module _ (v : Values) where
 
 -- ---- fields that a table lacks
 
-unread : (es : List Entry) (m : List ℕ) (f : Field) → lacks f es ≡ true → look es m f ≡ zeroOf f
+unread : (es : List Item) (m : List ℕ) (f : Field) → lacks f es ≡ true → look es m f ≡ zeroOf f
 unread [] m f h = refl
 unread (e ∷ es) m f h =
     let p = both h in
     rw (other f (fieldOf e) (p .0)) (unread es m f (p .1))
 
 -- nothing is read into them
-none-read : (es : List Entry) (m : List ℕ) (t : Bool) (fs : List Field) → allFrom (λ f. isZero (look es m f)) t (without es fs) ≡ t
+none-read : (es : List Item) (m : List ℕ) (t : Bool) (fs : List Field) → allFrom (λ f. isZero (look es m f)) t (without es fs) ≡ t
 none-read es m t [] = refl
 none-read es m t (f ∷ fs) = go (lacks f es) refl (none-read es m t fs)
   where
@@ -248,7 +248,7 @@ none-read es m t (f ∷ fs) = go (lacks f es) refl (none-read es m t fs)
         zero = rw (unread es m f e, about f .2) (and-true t)
 
 -- where all that a table lacks is zero, each of them is
-module _ (es : List Entry) (v : Values) where
+module _ (es : List Item) (v : Values) where
   empty-of : (f : Field) (fs : List Field) → allFrom (λ g. isZero (v g)) true (without es fs) ≡ true → has f fs ≡ true → lacks f es ≡ true
       → isZero (v f) ≡ true
   empty-of f [] e h l = clash h
@@ -281,7 +281,7 @@ zero-of (txt c) (number x) e h = clash h
 zero-of (txt c) (text xs) e h = ap text (sym (zeros xs c (eqb-true (length xs) c h) e))
 
 -- what is read of a field is of its kind
-read-kind : (es : List Entry) (m : List ℕ) (o : ℕ) (f : Field) → follows o es ≡ true → isText (look es m f) ≡ isText (zeroOf f)
+read-kind : (es : List Item) (m : List ℕ) (o : ℕ) (f : Field) → follows o es ≡ true → isText (look es m f) ≡ isText (zeroOf f)
 read-kind [] m o f s = refl
 read-kind (at g a n k ∷ es) m o f s =
     let p = both s in
@@ -294,7 +294,7 @@ read-kind (at g a n k ∷ es) m o f s =
     go false e u r = rw e r
 
 -- and has its length
-look-sized : (es : List Entry) (m : List ℕ) (o : ℕ) (f : Field) → follows o es ≡ true → sized (roomOf f) (look es m f) ≡ true
+look-sized : (es : List Item) (m : List ℕ) (o : ℕ) (f : Field) → follows o es ≡ true → sized (roomOf f) (look es m f) ≡ true
 look-sized [] m o f s = typed-sized (roomOf f) (zeroOf f) (zero-typed (roomOf f))
 look-sized (at g a n k ∷ es) m o f s =
     let p = both s in
@@ -346,7 +346,7 @@ module _ (l : Layout) where
 -- ---- every layout that is tiled
 
 module _ (l : Layout) (t : tiles l ≡ true) where
-  abbrev es : List Entry
+  abbrev es : List Item
   es = l .entries
 
   abbrev parts : (follows 0 es ≡ true) × (total es ≡ l .size) × (distinct es ≡ true) × (marks (l .place) es ≡ true)

@@ -6,7 +6,7 @@ use mathlib.Core.Bool.{Bool, true, false, cond, _&&_}
 use lib.Dec.{eqb}
 use Rattle.layout.specs.Values.{Field, zeroOf, is}
 use Rattle.layout.specs.Forms.{Form, byte, big, chars, writes}
-use Rattle.layout.specs.Tables.{Entry, at, fieldOf, offsetOf, widthOf, formOf, bytesAt, stands}
+use Rattle.layout.specs.Tables.{Item, at, fieldOf, offsetOf, widthOf, formOf, bytesAt, stands}
 
 -- the same bytes serve for both forms
 abbrev pub alike : Form → ℕ → Form → ℕ → Bool
@@ -21,30 +21,30 @@ alike (chars p) n (big q) k = false
 alike (chars p) n (chars q) k = true
 
 -- an entry's bytes as another form has them: copied, or spelt anew
-abbrev pub moved : Form → ℕ → Entry → List ℕ → List ℕ
+abbrev pub moved : Form → ℕ → Item → List ℕ → List ℕ
 moved j w e m = cond (alike j w (formOf e) (widthOf e)) (bytesAt e m) (writes j w (stands e m))
 
 -- the bytes of a field, in a form and a width, from a message of another table
-abbrev pub fetch : List Entry → List ℕ → Form → ℕ → Field → List ℕ
+abbrev pub fetch : List Item → List ℕ → Form → ℕ → Field → List ℕ
 fetch [] m j w f = writes j w (zeroOf f)
 fetch (e ∷ es) m j w f = cond (is f (fieldOf e)) (moved j w e m) (fetch es m j w f)
 
 -- a message of one table as a message of another
-abbrev pub carried : List Entry → List Entry → List ℕ → List ℕ
+abbrev pub carried : List Item → List Item → List ℕ → List ℕ
 carried [] from m = []
 carried (e ∷ es) from m = fetch from m (formOf e) (widthOf e) (fieldOf e) ++ carried es from m
 
 -- the bytes of a field where a table has it, and of several, one behind the other
-abbrev pub run : List Entry → List ℕ → Field → List ℕ
-run [] m f = []
-run (e ∷ es) m f = cond (is f (fieldOf e)) (bytesAt e m) (run es m f)
+abbrev pub runOf : List Item → List ℕ → Field → List ℕ
+runOf [] m f = []
+runOf (e ∷ es) m f = cond (is f (fieldOf e)) (bytesAt e m) (runOf es m f)
 
-abbrev pub runs : List Entry → List ℕ → List Field → List ℕ
+abbrev pub runs : List Item → List ℕ → List Field → List ℕ
 runs es m [] = []
-runs es m (f ∷ fs) = run es m f ++ runs es m fs
+runs es m (f ∷ fs) = runOf es m f ++ runs es m fs
 
 -- a table in which a field is zero exactly if its bytes are
-abbrev pub clear : List Entry → Bool
+abbrev pub clear : List Item → Bool
 clear [] = true
 clear (at f o n (byte p) ∷ es) = eqb n 1 && clear es
 clear (at f o n (big p) ∷ es) = clear es

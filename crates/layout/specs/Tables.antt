@@ -12,44 +12,44 @@ use Rattle.layout.specs.Values.{Field, letter, Value, Values, roomOf, ze
 use Rattle.layout.specs.Forms.{Form, byte, big, chars, reads, writes, keeps, spells, plain, fits, suits, narrow}
 
 -- a line of a table: field, offset, width, form with its rule
-pub data Entry : Type 0 where
-  at : Field → ℕ → ℕ → Form → Entry
+pub data Item : Type 0 where
+  at : Field → ℕ → ℕ → Form → Item
 
 -- the length of a message, the place of the letter that names its type, and the table
 pub record Layout : Type 0 where
   pub size : ℕ
   pub place : ℕ
-  pub entries : List Entry
+  pub entries : List Item
 
-abbrev pub fieldOf : Entry → Field
+abbrev pub fieldOf : Item → Field
 fieldOf (at f o n k) = f
 
-abbrev pub offsetOf : Entry → ℕ
+abbrev pub offsetOf : Item → ℕ
 offsetOf (at f o n k) = o
 
-abbrev pub widthOf : Entry → ℕ
+abbrev pub widthOf : Item → ℕ
 widthOf (at f o n k) = n
 
-abbrev pub formOf : Entry → Form
+abbrev pub formOf : Item → Form
 formOf (at f o n k) = k
 
 -- ---- what is computed of a table
 
-abbrev pub lacks : Field → List Entry → Bool
+abbrev pub lacks : Field → List Item → Bool
 lacks f [] = true
 lacks f (e ∷ es) = not (is f (fieldOf e)) && lacks f es
 
 -- no field is there twice
-abbrev pub distinct : List Entry → Bool
+abbrev pub distinct : List Item → Bool
 distinct [] = true
 distinct (e ∷ es) = lacks (fieldOf e) es && distinct es
 
 -- each entry begins where the one before it ends, and is well made
-abbrev pub follows : ℕ → List Entry → Bool
+abbrev pub follows : ℕ → List Item → Bool
 follows o [] = true
 follows o (e ∷ es) = eqb (offsetOf e) o && suits (formOf e) (widthOf e) (roomOf (fieldOf e)) && follows (o + widthOf e) es
 
-abbrev pub total : List Entry → ℕ
+abbrev pub total : List Item → ℕ
 total [] = 0
 total (e ∷ es) = widthOf e + total es
 
@@ -59,7 +59,7 @@ isByte (big r) = false
 isByte (chars p) = false
 
 -- the letter stands at a place
-abbrev pub marks : ℕ → List Entry → Bool
+abbrev pub marks : ℕ → List Item → Bool
 marks o [] = false
 marks o (e ∷ es) = cond (is letter (fieldOf e)) (eqb (offsetOf e) o && isByte (formOf e)) (marks o es)
 
@@ -68,26 +68,26 @@ unfoldable pub tiles : Layout → Bool
 tiles l = follows 0 (l .entries) && eqb (total (l .entries)) (l .size) && distinct (l .entries) && marks (l .place) (l .entries)
 
 -- what is read by the table has room in a record, whatever the bytes are
-abbrev pub allNarrow : List Entry → Bool
+abbrev pub allNarrow : List Item → Bool
 allNarrow [] = true
 allNarrow (e ∷ es) = narrow (formOf e) (widthOf e) (roomOf (fieldOf e)) && allNarrow es
 
 -- ---- to read and to write by a layout
 
 -- the bytes at an entry's place, and the value that they spell
-abbrev pub bytesAt : Entry → List ℕ → List ℕ
+abbrev pub bytesAt : Item → List ℕ → List ℕ
 bytesAt e m = part m (offsetOf e) (widthOf e)
 
-abbrev pub stands : Entry → List ℕ → Value
+abbrev pub stands : Item → List ℕ → Value
 stands e m = reads (formOf e) (bytesAt e m)
 
 -- what a message says of a field
-abbrev pub look : List Entry → List ℕ → Field → Value
+abbrev pub look : List Item → List ℕ → Field → Value
 look [] m f = zeroOf f
 look (e ∷ es) m f = cond (is f (fieldOf e)) (stands e m) (look es m f)
 
 -- the message of a record's values
-abbrev pub written : List Entry → Values → List ℕ
+abbrev pub written : List Item → Values → List ℕ
 written [] v = []
 written (e ∷ es) v = writes (formOf e) (widthOf e) (v (fieldOf e)) ++ written es v
 
@@ -99,7 +99,7 @@ Each P [] = Unit
 Each P (x ∷ xs) = P x × Each P xs
 
 -- the fields of a list that a table lacks
-abbrev pub without : List Entry → List Field → List Field
+abbrev pub without : List Item → List Field → List Field
 without es [] = []
 without es (f ∷ fs) = cond (lacks f es) (f ∷ without es fs) (without es fs)
 

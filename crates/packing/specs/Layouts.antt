@@ -11,7 +11,7 @@ use Rattle.kinds.specs.Kinds.{letterOf, kindOf}
 use Rattle.layout.specs.Values.{letter, time, event, centre, symbol, class, control, price, size, condition, newControl, newPrice}
 use Rattle.layout.specs.Values.{newSize, newCondition, high, low, close, consolidated}
 use Rattle.layout.specs.Forms.{byte, big, chars}
-use Rattle.layout.specs.Tables.{Entry, at, Layout}
+use Rattle.layout.specs.Tables.{Item, at, Layout}
 use Rattle.rules.specs.Rules as Rules
 
 -- where every layout has its letter
@@ -36,7 +36,7 @@ layoutS =
     }
 
 -- T to offset 36, with a letter
-abbrev pub toCondition : ℕ → List Entry → List Entry
+abbrev pub toCondition : ℕ → List Item → List Item
 toCondition k rest =
     at time 0 4 (big Rules.time)
     ∷ at letter 4 1 (byte (the k))

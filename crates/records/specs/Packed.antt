@@ -8,7 +8,7 @@ use Rattle.numbers.specs.Number.{digits}
 use Rattle.layout.specs.Values.{Field, letter, time, event, centre, symbol, class, control, price, size, condition, newControl}
 use Rattle.layout.specs.Values.{newPrice, newSize, newCondition, high, low, close, consolidated}
 use Rattle.layout.specs.Forms.{any, byte, big, chars}
-use Rattle.layout.specs.Tables.{Entry, at, Layout, look}
+use Rattle.layout.specs.Tables.{Item, at, Layout, look}
 use Rattle.records.specs.declared.Sale.{Sale}
 use Rattle.records.specs.declared.Record.{Record}
 use Rattle.records.specs.Held.{saleFrom, readBy, writeBy}
@@ -20,11 +20,11 @@ abbrev pub anyText : List ℕ → Bool
 anyText xs = true
 
 -- a trade, 22 bytes wherever it stands: control, price, size, condition, in the fields that are named
-abbrev pub saleSlots : ℕ → Field → Field → Field → Field → List Entry → List Entry
+abbrev pub saleSlots : ℕ → Field → Field → Field → Field → List Item → List Item
 saleSlots o c p s d rest =
     at c o 10 (chars anyText) ∷ at p (o + 10) 4 (big any) ∷ at s (o + 14) 4 (big any) ∷ at d (o + 18) 4 (chars anyText) ∷ rest
 
-unfoldable pub slots : List Entry
+unfoldable pub slots : List Item
 slots =
     at letter 0 1 (byte anyByte)
     ∷ at time 1 4 (big any)

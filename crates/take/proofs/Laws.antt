@@ -9,7 +9,7 @@ use Rattle.kinds.specs.Kinds.{isCorrection, isSummary, namesOld, makesNew, sets
 use Rattle.records.specs.declared.Record.{Record}
 use Rattle.lines.specs.declared.Line.{Line}
 use Rattle.lines.specs.Lines.{lineIn, withLine, withDead}
-use Rattle.take.specs.Taking.{madeLine, correctedLine, corrected, linesBy, reported, summarised, rowsBy}
+use Rattle.take.specs.Taking.{madeLine, correctedLine, corrected, linesBy, reported, summed, rowsBy}
 
 pub corrected-stored : (m mid out : List ℕ) (used k : ℕ) (r : Record) (old l : Line)
     → out ≡ withLine mid used l → mid ≡ withDead m k → l ≡ correctedLine old r → old ≡ lineIn m k
@@ -37,7 +37,7 @@ module _ (kind : Kind) (m : List ℕ) (used n : ℕ) (r : Record) (k : ℕ) wher
   lines-left f g = simp (f, g)
 
 module _ (kind : Kind) (m : List ℕ) (r : Record) (i : ℕ) where
-  pub rows-summed : isSummary kind ≡ true → summarised m r i ≡ rowsBy kind m r i
+  pub rows-summed : isSummary kind ≡ true → summed m r i ≡ rowsBy kind m r i
   unfolding rowsBy
   rows-summed e = simp e
 

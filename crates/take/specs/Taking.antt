@@ -65,14 +65,14 @@ abbrev pub reported : List ℕ → Record → ℕ → List ℕ
 reported m r i = withReport m i (r .consolidated)
 
 -- J keeps its high and low in the row
-abbrev pub summarised : List ℕ → Record → ℕ → List ℕ
-summarised m r i = reported (withSummary m i (r .high) (r .low)) r i
+abbrev pub summed : List ℕ → Record → ℕ → List ℕ
+summed m r i = reported (withSummary m i (r .high) (r .low)) r i
 
 -- the lent rows after a message of a type; row i is the first of its symbol
 unfoldable pub rowsBy : Kind → List ℕ → Record → ℕ → List ℕ
 rowsBy kind m r i =
     -- J
-    cond (isSummary kind) (summarised m r i)
+    cond (isSummary kind) (summed m r i)
     -- T, X and C
     (cond (setsVolume kind) (reported m r i) m)
 

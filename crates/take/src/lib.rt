@@ -78,7 +78,7 @@ pub fn take_lines(lines: &mut [u8], used: usize, n: u32, kind: Kind, r: Record, 
 
 // Keeps a J's high and low and its volume.
 fn summarise(rows: &mut [u8], r: Record, i: usize)
-    ensures { λ _. ⌜ now (rows .exit) ≡ Taking.summarised (now (rows .entry)) r i ⌝ }
+    ensures { λ _. ⌜ now (rows .exit) ≡ Taking.summed (now (rows .entry)) r i ⌝ }
 {
     rows::summarise(rows, i, r.high, r.low);
     rows::report(rows, i, r.consolidated);

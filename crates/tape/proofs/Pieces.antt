@@ -12,7 +12,7 @@ use lib.ListN.{length, take, drop, length-append, length-drop}
 use lib.Seq.{drop-drop, take-append-le, drop-append-le}
 use Rattle.tape.specs.Entries.{bodyLength, headOf, entryOf}
 use Rattle.book.specs.State.{State}
-use Rattle.tape.specs.Playing.{acted, Play, further, played, Held, begun, held, feed, feedAll, joined}
+use Rattle.tape.specs.Playing.{acted, Play, further, played, Holding, begun, held, feed, feedAll, joined}
 use Rattle.tape.specs.declared.Stop.{Stop}
 use Rattle.tape.specs.declared.Stop.the-variants.{Ended, NoKind, CutShort}
 use Rattle.tape.specs.declared.entries.Head.{Head}
@@ -181,11 +181,11 @@ feed-from : (s : State) (a : List ℕ) (ps : List (List ℕ)) → feedAll (held 
 unfolding feedAll
 feed-from s a [] = rw (append-nil a)
 feed-from s a (piece ∷ ps) =
-    ap (λ (h : Held). feedAll h ps) (feed-one s a piece) ∙ feed-from s (a ++ piece) ps ∙ ap (held s) (append-assoc a piece (joined ps))
+    ap (λ (h : Holding). feedAll h ps) (feed-one s a piece) ∙ feed-from s (a ++ piece) ps ∙ ap (held s) (append-assoc a piece (joined ps))
 
 -- any way of cutting a tape into pieces comes to the same book, the same bytes used, the same stop and the same bytes left over
 pub pieces : (s : State) (ps : List (List ℕ)) → feedAll (begun s) ps ≡ held s (joined ps)
 unfolding played headOf
 pieces s ps =
     let e : begun s ≡ held s [] = rw (play-stops s [] Ended refl) in
-    ap (λ (h : Held). feedAll h ps) e ∙ feed-from s [] ps
+    ap (λ (h : Holding). feedAll h ps) e ∙ feed-from s [] ps

@@ -16,8 +16,8 @@ use Rattle.octets.proofs.Laws.{part-length}
 use Rattle.numbers.proofs.Laws.{be-below, digits-length}
 use Rattle.numbers.proofs.Trips.{be-digits, digits-part}
 use Rattle.octets.proofs.Trips.{join, walk, here, last}
-use Rattle.tape.specs.Entries.{messageLength, bodyLength, Entry, Lists, Delivers, bytesOf, Sized, headOf, listingIn, delivery}
-use Rattle.tape.specs.Entries.{entryOf, Each, tapeOf, Tape, endOf}
+use Rattle.tape.specs.Entries.{messageLength, bodyLength, Entry, Lists, Delivers, entryBytes, EntryFits, headOf, listingIn, delivery}
+use Rattle.tape.specs.Entries.{entryOf, EntriesFit, tapeOf, Tape, endOf}
 use Rattle.book.specs.State.{State, arrives}
 use Rattle.tape.specs.Playing.{acted, actedAll, further, played}
 use Rattle.tape.specs.declared.Stop.{Stop}
@@ -86,14 +86,14 @@ module _ (k number : ℕ) (m : List ℕ) (long : length m ≡ messageLength k) (
       stands k ((digits 4 number ++ m) ++ more) (λ z. omega arith) l ∙ ap Whole (sym message-long)
 
 -- the bytes of an entry say which entry it is
-pub entry-again : (e : Entry) → Sized e → entryOf (bytesOf e) ≡ e
-unfolding bytesOf
+pub entry-again : (e : Entry) → EntryFits e → entryOf (entryBytes e) ≡ e
+unfolding entryBytes
 entry-again (Lists l) z = listing-there (l .symbol) (l .close) (z .0) (z .1)
 entry-again (Delivers k a) z = message-there k (a .number) (a .message) (z .0) (z .1) (z .2)
 
 -- and it stands at the head of its bytes, whatever follows
-pub entry-head : (e : Entry) (more : List ℕ) → Sized e → headOf (bytesOf e ++ more) ≡ Whole (length (bytesOf e))
-unfolding bytesOf
+pub entry-head : (e : Entry) (more : List ℕ) → EntryFits e → headOf (entryBytes e ++ more) ≡ Whole (length (entryBytes e))
+unfolding entryBytes
 entry-head (Lists l) more z =
     listing-head (l .symbol) (l .close) (z .0) (z .1) more ∙ ap Whole (sym (listing-length (l .symbol) (l .close) (z .0) (z .1)))
 entry-head (Delivers k a) more z = message-head k (a .number) (a .message) (z .0) (z .1) (z .2) more
@@ -119,8 +119,8 @@ module _ (k : ℕ) (body : List ℕ) (known : bodyLength k ≡ 0 → ⊥) (long 
   all = k ∷ body
 
   -- a listing
-  listing-back : k ≡ 76 → (bytesOf (Lists (listingIn all)) ≡ all) × Sized (Lists (listingIn all))
-  unfolding bytesOf bodyLength
+  listing-back : k ≡ 76 → (entryBytes (Lists (listingIn all)) ≡ all) × EntryFits (Lists (listingIn all))
+  unfolding entryBytes bodyLength
   listing-back e =
       let l : length body ≡ 12 = long ∙ rw e in
       let d : digits 4 (be (part all 9 4)) ≡ part all 9 4 = digits-part all 9 4 h in
@@ -137,8 +137,8 @@ module _ (k : ℕ) (body : List ℕ) (known : bodyLength k ≡ 0 → ⊥) (long 
       go true t = absurd (known (rw (ne-eqb k 76 e, t)))
       go false t = let z = eqb-false (messageLength k) 0 t in omega arith
 
-  message-back : (k ≡ 76 → ⊥) → (bytesOf (delivery all) ≡ all) × Sized (delivery all)
-  unfolding bytesOf
+  message-back : (k ≡ 76 → ⊥) → (entryBytes (delivery all) ≡ all) × EntryFits (delivery all)
+  unfolding entryBytes
   message-back e =
       let s = some-message e in
       let b : bodyLength k ≡ 4 + messageLength k = message-body k s in
@@ -151,17 +151,17 @@ module _ (k : ℕ) (body : List ℕ) (known : bodyLength k ≡ 0 → ⊥) (long 
       = ap (λ (x : List ℕ). x ++ drop 5 all) d ∙ ap (λ (x : List ℕ). part all 1 4 ++ x) (sym t) ∙ j ∙ w in
       (ap (λ (x : List ℕ). k ∷ x) f, (r, s, be-below all 1 4 h))
 
-  pub entry-back : (bytesOf (entryOf all) ≡ all) × Sized (entryOf all)
+  pub entry-back : (entryBytes (entryOf all) ≡ all) × EntryFits (entryOf all)
   unfolding entryOf
   entry-back = go (eqb k 76) refl
     where
-      go : (t : Bool) → eqb k 76 ≡ t → (bytesOf (entryOf all) ≡ all) × Sized (entryOf all)
+      go : (t : Bool) → eqb k 76 ≡ t → (entryBytes (entryOf all) ≡ all) × EntryFits (entryOf all)
       go true t = rw t (listing-back (eqb-true k 76 t))
       go false t = rw t (message-back (eqb-false k 76 t))
 
 -- an entry that stands at the head of bytes: those bytes are its, and it has its size
 pub entry-found : (b : List ℕ) (n : ℕ) → Bytes b → headOf b ≡ Whole n
-    → (bytesOf (entryOf (take n b)) ≡ take n b) × Sized (entryOf (take n b))
+    → (entryBytes (entryOf (take n b)) ≡ take n b) × EntryFits (entryOf (take n b))
 entry-found b n h e =
     let w = standing b n e in
     let t : take n b ≡ w .kind ∷ take (bodyLength (w .kind)) (w .after)
@@ -173,14 +173,14 @@ entry-found b n h e =
 -- ---- entries and a rest
 
 -- where a play would stop no entry stands
-stops-ends : (b : List ℕ) (w : Stop) → headOf b ≡ Stops w → (e : Entry) (more : List ℕ) → Sized e → b ≡ bytesOf e ++ more → ⊥
+stops-ends : (b : List ℕ) (w : Stop) → headOf b ≡ Stops w → (e : Entry) (more : List ℕ) → EntryFits e → b ≡ entryBytes e ++ more → ⊥
 stops-ends b w h e more z f = never (sym h ∙ ap headOf f ∙ entry-head e more z)
 
 -- bytes with an entry before them
-tape-more : {b : List ℕ} {es : List Entry} {rest : List ℕ} (e : Entry) → Sized e → Tape b es rest → Tape (bytesOf e ++ b) (e ∷ es) rest
+tape-more : {b : List ℕ} {es : List Entry} {rest : List ℕ} (e : Entry) → EntryFits e → Tape b es rest → Tape (entryBytes e ++ b) (e ∷ es) rest
 tape-more {b} {es} {rest} e z t =
     record {
-      bytes = ap (λ (x : List ℕ). bytesOf e ++ x) (t .bytes) ∙ sym (append-assoc (bytesOf e) (tapeOf es) rest);
+      bytes = ap (λ (x : List ℕ). entryBytes e ++ x) (t .bytes) ∙ sym (append-assoc (entryBytes e) (tapeOf es) rest);
       each = (z, t .each);
       ends = t .ends;
     }
@@ -197,7 +197,7 @@ cut-here b w e = record { entries = []; rest = b; whole = record { bytes = refl;
 cut-later : (b : List ℕ) (n : ℕ) → Bytes b → headOf b ≡ Whole n → Cut (drop n b) → Cut b
 cut-later b n h e r =
     let f = entry-found b n h e in
-    let g : bytesOf (entryOf (take n b)) ++ drop n b ≡ b = ap (λ (x : List ℕ). x ++ drop n b) (f .0) ∙ take-append-drop n b in
+    let g : entryBytes (entryOf (take n b)) ++ drop n b ≡ b = ap (λ (x : List ℕ). x ++ drop n b) (f .0) ∙ take-append-drop n b in
     record {
       entries = entryOf (take n b) ∷ r .entries;
       rest = r .rest;
@@ -219,34 +219,34 @@ pub split : (b : List ℕ) → Bytes b → Cut b
 split b h = cut-for (length b) b (omega arith) h
 
 -- two entries at the head of the same bytes are one, and the same bytes follow
-same-entry : (e e′ : Entry) (more more′ : List ℕ) → Sized e → Sized e′ → bytesOf e ++ more ≡ bytesOf e′ ++ more′ → (e ≡ e′) × (more ≡ more′)
+same-entry : (e e′ : Entry) (more more′ : List ℕ) → EntryFits e → EntryFits e′ → entryBytes e ++ more ≡ entryBytes e′ ++ more′ → (e ≡ e′) × (more ≡ more′)
 same-entry e e′ more more′ z z′ f =
-    let h : Whole (length (bytesOf e)) ≡ Whole (length (bytesOf e′)) = sym (entry-head e more z) ∙ ap headOf f ∙ entry-head e′ more′ z′ in
-    let n : length (bytesOf e) ≡ length (bytesOf e′) = cc in
-    let t : take (length (bytesOf e)) (bytesOf e ++ more) ≡ take (length (bytesOf e′)) (bytesOf e′ ++ more′)
-    = ap (λ (x : List ℕ). take (length (bytesOf e)) x) f ∙ ap (λ (x : ℕ). take x (bytesOf e′ ++ more′)) n in
-    let d : drop (length (bytesOf e)) (bytesOf e ++ more) ≡ drop (length (bytesOf e′)) (bytesOf e′ ++ more′)
-    = ap (λ (x : List ℕ). drop (length (bytesOf e)) x) f ∙ ap (λ (x : ℕ). drop x (bytesOf e′ ++ more′)) n in
-    let b : bytesOf e ≡ bytesOf e′ = sym (take-append-seam (bytesOf e) more) ∙ t ∙ take-append-seam (bytesOf e′) more′ in (
+    let h : Whole (length (entryBytes e)) ≡ Whole (length (entryBytes e′)) = sym (entry-head e more z) ∙ ap headOf f ∙ entry-head e′ more′ z′ in
+    let n : length (entryBytes e) ≡ length (entryBytes e′) = cc in
+    let t : take (length (entryBytes e)) (entryBytes e ++ more) ≡ take (length (entryBytes e′)) (entryBytes e′ ++ more′)
+    = ap (λ (x : List ℕ). take (length (entryBytes e)) x) f ∙ ap (λ (x : ℕ). take x (entryBytes e′ ++ more′)) n in
+    let d : drop (length (entryBytes e)) (entryBytes e ++ more) ≡ drop (length (entryBytes e′)) (entryBytes e′ ++ more′)
+    = ap (λ (x : List ℕ). drop (length (entryBytes e)) x) f ∙ ap (λ (x : ℕ). drop x (entryBytes e′ ++ more′)) n in
+    let b : entryBytes e ≡ entryBytes e′ = sym (take-append-seam (entryBytes e) more) ∙ t ∙ take-append-seam (entryBytes e′) more′ in (
       sym (entry-again e z) ∙ ap entryOf b ∙ entry-again e′ z′,
-      sym (drop-append-seam (bytesOf e) more) ∙ d
-          ∙ drop-append-seam (bytesOf e′) more′,
+      sym (drop-append-seam (entryBytes e) more) ∙ d
+          ∙ drop-append-seam (entryBytes e′) more′,
     )
 
 cons-same : {e e′ : Entry} {es es′ : List Entry} → e ≡ e′ → es ≡ es′ → e ∷ es ≡ e′ ∷ es′
 cons-same p q = cc
 
 -- there is one way only
-one-for : (es es′ : List Entry) (rest rest′ : List ℕ) → Each es → Each es′
-    → ((e : Entry) (more : List ℕ) → Sized e → rest ≡ bytesOf e ++ more → ⊥)
-    → ((e : Entry) (more : List ℕ) → Sized e → rest′ ≡ bytesOf e ++ more → ⊥)
+one-for : (es es′ : List Entry) (rest rest′ : List ℕ) → EntriesFit es → EntriesFit es′
+    → ((e : Entry) (more : List ℕ) → EntryFits e → rest ≡ entryBytes e ++ more → ⊥)
+    → ((e : Entry) (more : List ℕ) → EntryFits e → rest′ ≡ entryBytes e ++ more → ⊥)
     → tapeOf es ++ rest ≡ tapeOf es′ ++ rest′ → (es ≡ es′) × (rest ≡ rest′)
 one-for [] [] rest rest′ z z′ n n′ f = (refl, f)
-one-for [] (e ∷ es) rest rest′ z z′ n n′ f = absurd (n e (tapeOf es ++ rest′) (z′ .0) (f ∙ append-assoc (bytesOf e) (tapeOf es) rest′))
-one-for (e ∷ es) [] rest rest′ z z′ n n′ f = absurd (n′ e (tapeOf es ++ rest) (z .0) (sym f ∙ append-assoc (bytesOf e) (tapeOf es) rest))
+one-for [] (e ∷ es) rest rest′ z z′ n n′ f = absurd (n e (tapeOf es ++ rest′) (z′ .0) (f ∙ append-assoc (entryBytes e) (tapeOf es) rest′))
+one-for (e ∷ es) [] rest rest′ z z′ n n′ f = absurd (n′ e (tapeOf es ++ rest) (z .0) (sym f ∙ append-assoc (entryBytes e) (tapeOf es) rest))
 one-for (e ∷ es) (e′ ∷ es′) rest rest′ z z′ n n′ f =
-    let g : bytesOf e ++ (tapeOf es ++ rest) ≡ bytesOf e′ ++ (tapeOf es′ ++ rest′)
-    = sym (append-assoc (bytesOf e) (tapeOf es) rest) ∙ f ∙ append-assoc (bytesOf e′) (tapeOf es′) rest′ in
+    let g : entryBytes e ++ (tapeOf es ++ rest) ≡ entryBytes e′ ++ (tapeOf es′ ++ rest′)
+    = sym (append-assoc (entryBytes e) (tapeOf es) rest) ∙ f ∙ append-assoc (entryBytes e′) (tapeOf es′) rest′ in
     let s = same-entry e e′ (tapeOf es ++ rest) (tapeOf es′ ++ rest′) (z .0) (z′ .0) g in
     let r = one-for es es′ rest rest′ (z .1) (z′ .1) n n′ (s .1) in
     (cons-same (s .0) (r .0), r .1)
@@ -276,7 +276,7 @@ end-is (k ∷ s) w e = go (eqb (bodyLength k) 0) refl (leb (bodyLength k) (lengt
     go false t true v = absurd (never (sym (rw (t, v) at e)))
     go false t false v = let f : Stops CutShort ≡ Stops w = rw (t, v) at e in let g : w ≡ CutShort = cc in rw t g
 
-ends-stops : (b : List ℕ) → Bytes b → ((e : Entry) (more : List ℕ) → Sized e → b ≡ bytesOf e ++ more → ⊥) → headOf b ≡ Stops (endOf b)
+ends-stops : (b : List ℕ) → Bytes b → ((e : Entry) (more : List ℕ) → EntryFits e → b ≡ entryBytes e ++ more → ⊥) → headOf b ≡ Stops (endOf b)
 ends-stops b h n = go (headOf b) refl
   where
     go : (x : Head) → headOf b ≡ x → headOf b ≡ Stops (endOf b)
@@ -286,21 +286,21 @@ ends-stops b h n = go (headOf b) refl
         absurd (n (entryOf (take k b)) (drop k b) (f .1) (sym (ap (λ (x : List ℕ). x ++ drop k b) (f .0) ∙ take-append-drop k b)))
 
 -- an entry, and then what follows
-pub play-entry : (s : State) (e : Entry) (more : List ℕ) → Sized e
-    → played s (bytesOf e ++ more) ≡ further (length (bytesOf e)) (played (acted s e) more)
+pub play-entry : (s : State) (e : Entry) (more : List ℕ) → EntryFits e
+    → played s (entryBytes e ++ more) ≡ further (length (entryBytes e)) (played (acted s e) more)
 play-entry s e more z =
-    play-whole s (bytesOf e ++ more) (length (bytesOf e)) (entry-head e more z)
-    ∙ rw (take-append-seam (bytesOf e) more, drop-append-seam (bytesOf e) more, entry-again e z)
+    play-whole s (entryBytes e ++ more) (length (entryBytes e)) (entry-head e more z)
+    ∙ rw (take-append-seam (entryBytes e) more, drop-append-seam (entryBytes e) more, entry-again e z)
 
-play-entries : (s : State) (es : List Entry) (rest : List ℕ) → Each es → headOf rest ≡ Stops (endOf rest)
+play-entries : (s : State) (es : List Entry) (rest : List ℕ) → EntriesFit es → headOf rest ≡ Stops (endOf rest)
     → played s (tapeOf es ++ rest) ≡ record { state = actedAll s es; used = length (tapeOf es); stop = endOf rest }
 unfolding actedAll
 play-entries s [] rest z h = play-stops s rest (endOf rest) h
 play-entries s (e ∷ es) rest z h =
-    ap (played s) (append-assoc (bytesOf e) (tapeOf es) rest)
+    ap (played s) (append-assoc (entryBytes e) (tapeOf es) rest)
     ∙ play-entry s e (tapeOf es ++ rest) (z .0)
-    ∙ ap (further (length (bytesOf e))) (play-entries (acted s e) es rest (z .1) h)
-    ∙ rw (length-append (bytesOf e) (tapeOf es))
+    ∙ ap (further (length (entryBytes e))) (play-entries (acted s e) es rest (z .1) h)
+    ∙ rw (length-append (entryBytes e) (tapeOf es))
 
 -- the entries' effects in order; the entries' bytes used; and the rest says why it stopped
 pub play-split : (s : State) (b : List ℕ) (es : List Entry) (rest : List ℕ) → Bytes b → Tape b es rest

@@ -77,14 +77,14 @@ pub data Entry : Type 0 where
   Delivers : ℕ → Arrival → Entry
 
 -- the bytes of an entry
-unfoldable pub bytesOf : Entry → List ℕ
-bytesOf (Lists l) = listingLetter ∷ l .symbol ++ digits closeBytes (l .close)
-bytesOf (Delivers kind a) = kind ∷ digits numberBytes (a .number) ++ a .message
+unfoldable pub entryBytes : Entry → List ℕ
+entryBytes (Lists l) = listingLetter ∷ l .symbol ++ digits closeBytes (l .close)
+entryBytes (Delivers kind a) = kind ∷ digits numberBytes (a .number) ++ a .message
 
 -- a symbol and a close of their bytes; a kind of message, a number of its bytes, and as many bytes as the kind has, whatever they are
-abbrev pub Sized : Entry → Type 0
-Sized (Lists l) = (length (l .symbol) ≡ symbolBytes) × (l .close < 256 ^ closeBytes)
-Sized (Delivers kind a) = (length (a .message) ≡ messageLength kind) × (0 < messageLength kind) × (a .number < 256 ^ numberBytes)
+abbrev pub EntryFits : Entry → Type 0
+EntryFits (Lists l) = (length (l .symbol) ≡ symbolBytes) × (l .close < 256 ^ closeBytes)
+EntryFits (Delivers kind a) = (length (a .message) ≡ messageLength kind) × (0 < messageLength kind) × (a .number < 256 ^ numberBytes)
 
 -- ---- what stands at the head
 
@@ -108,20 +108,20 @@ entryOf b = cond (eqb (getD b 0 0) listingLetter) (Lists (listingIn b)) (deliver
 
 -- ---- a tape
 
-abbrev pub Each : List Entry → Type 0
-Each [] = Unit {0}
-Each (e ∷ es) = Sized e × Each es
+abbrev pub EntriesFit : List Entry → Type 0
+EntriesFit [] = Unit {0}
+EntriesFit (e ∷ es) = EntryFits e × EntriesFit es
 
 -- entry after entry
 abbrev pub tapeOf : List Entry → List ℕ
 tapeOf [] = []
-tapeOf (e ∷ es) = bytesOf e ++ tapeOf es
+tapeOf (e ∷ es) = entryBytes e ++ tapeOf es
 
 -- entries and a rest: the bytes are those of the entries and then the rest's, at whose head no entry stands
 pub record Tape (b : List ℕ) (es : List Entry) (rest : List ℕ) : Type 0 where
   pub bytes : b ≡ tapeOf es ++ rest
-  pub each : Each es
-  pub ends : (e : Entry) (more : List ℕ) → Sized e → rest ≡ bytesOf e ++ more → ⊥
+  pub each : EntriesFit es
+  pub ends : (e : Entry) (more : List ℕ) → EntryFits e → rest ≡ entryBytes e ++ more → ⊥
 
 -- why a tape ends with that rest: it is nothing; it begins with a byte that is no kind; or else the body is not whole
 abbrev pub endOf : List ℕ → Stop

@@ -59,27 +59,27 @@ played s b = playSome (length b) s b
 -- ---- piece by piece
 
 -- a play that goes on: what was played so far, and the bytes that it left over
-pub record Held : Type 0 where
+pub record Holding : Type 0 where
   pub so : Play
   pub left : List ℕ
 
 -- nothing played and nothing left over
-abbrev pub begun : State → Held
+abbrev pub begun : State → Holding
 begun s = record { so = stopped s Ended; left = [] }
 
 -- all of b played at once
-abbrev pub held : State → List ℕ → Held
+abbrev pub held : State → List ℕ → Holding
 held s b = record { so = played s b; left = drop (played s b .used) b }
 
 -- one piece more, played behind what was left over before it
-unfoldable pub feed : Held → List ℕ → Held
+unfoldable pub feed : Holding → List ℕ → Holding
 feed h piece =
     record {
       so = further (h .so .used) (played (h .so .state) (h .left ++ piece));
       left = drop (played (h .so .state) (h .left ++ piece) .used) (h .left ++ piece);
     }
 
-unfoldable pub feedAll : Held → List (List ℕ) → Held
+unfoldable pub feedAll : Holding → List (List ℕ) → Holding
 feedAll h [] = h
 feedAll h (piece ∷ pieces) = feedAll (feed h piece) pieces
 

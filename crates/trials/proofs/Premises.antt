@@ -12,7 +12,7 @@ use Rattle.rows.specs.declared.Listing.{Listing}
 use Rattle.counters.proofs.Sound.{sound-gives}
 use Rattle.book.specs.State.{State, Arrival, wantedIn}
 use Rattle.rows.specs.Rows.{rowLimit}
-use Rattle.clerk.specs.Clerk.{sheetOf}
+use Rattle.clerk.specs.Clerk.{clerkSheet}
 use Rattle.clerk.specs.Arrivals.{run, Largest, numbers}
 use Rattle.trials.specs.Premises.{Breaks, begun}
 use Rattle.clerk.proofs.InOrder.{got, got-at, largest-got}
@@ -48,7 +48,7 @@ premises-needed =
 pub last-wanted : {rooms : State} {ls : List Listing} {l : List Arrival} {end : State} → Day rooms ls l end → wantedIn end ≤ 4294967296
 last-wanted {rooms} {ls} {l} {end} h =
     let rows = length (rooms .rows) in
-    let e = delivers-are rows (length (rooms .lines)) (listedBook (sheetOf (rowLimit rows) ls)) (h .delivers) (sheet-stands h) in
+    let e = delivers-are rows (length (rooms .lines)) (listedBook (clerkSheet (rowLimit rows) ls)) (h .delivers) (sheet-stands h) in
     sound-gives (end .counters) (length (end .rows)) (length (end .lines)) (e .safe) .greatest
 
 -- so of a day of one message more the last is not used, though it comes in order

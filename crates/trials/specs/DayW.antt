@@ -22,7 +22,7 @@ entriesW =
     ∷ []
 
 unfoldable pub tapeW : List ℕ
-unfolding bookShows Entries.bytesOf entriesW
+unfolding bookShows Entries.entryBytes entriesW
 tapeW = tapeOf entriesW
 
 unfoldable pub playW : Play

@@ -46,7 +46,7 @@ use Rattle.counters.specs.Counting as Counting
 use Rattle.book.specs.Calls as Calls
 use Rattle.clerk.specs.Clerk as Clerk
 use Rattle.clerk.specs.Arrivals as Arrivals
-use Rattle.clerk.specs.Clerk.{sheetOf, takenOf, shownBy}
+use Rattle.clerk.specs.Clerk.{clerkSheet, takenOf, shownBy}
 use Rattle.clerk.specs.Arrivals.{upto}
 
 -- ---- texts and messages
@@ -241,7 +241,7 @@ unfoldable pub clerkShows : Case → List RowShown
 unfolding bookShows Clerk.sheetFrom Clerk.phaseAfter Clerk.originOf Clerk.tradesBut Clerk.takenOf Clerk.summaryOf Clerk.reportedOf
     Clerk.rowOf Clerk.shownBy Arrivals.upto
 clerkShows c =
-    let es = takenOf (sheetOf (rowLimit rowsRoom) (c .sheet)) (lineLimit linesRoom) (upto (dayOf (c .day)) (c .used)) in
+    let es = takenOf (clerkSheet (rowLimit rowsRoom) (c .sheet)) (lineLimit linesRoom) (upto (dayOf (c .day)) (c .used)) in
     map (shownBy es) (c .sheet)
 
 -- ---- the table

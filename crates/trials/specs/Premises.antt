@@ -11,7 +11,7 @@ use Rattle.book.specs.State.{State, withCounters, withRows, withLines, arrives}
 use Rattle.book.specs.Calls.{listed, spent, delivered}
 use Rattle.clerk.specs.Steps.{Book}
 use Rattle.clerk.specs.Clerk as Clerk
-use Rattle.clerk.specs.Clerk.{sheetOf, clerkBook}
+use Rattle.clerk.specs.Clerk.{clerkSheet, clerkBook}
 use Rattle.clerk.specs.Arrivals.{Largest, upto}
 use Rattle.trials.specs.Days.{abcd, q1, event, trade, cancel, dayOf, alone, rowsRoom, linesRoom, freshRooms, opened, deliveredIn}
 use Rattle.trials.specs.Days.{leftBy, clerkShows}
@@ -22,7 +22,7 @@ day = dayOf (event 1 79 ∷ trade 2 81 q1 100 ∷ cancel 3 81 q1 200 ∷ [])
 -- the clerk's book after the first n
 unfoldable pub clerks : ℕ → Book
 unfolding clerkShows Clerk.bookBy Clerk.clerkBook
-clerks n = clerkBook (sheetOf (rowLimit rowsRoom) (alone 250000)) (lineLimit linesRoom) (upto day n)
+clerks n = clerkBook (clerkSheet (rowLimit rowsRoom) (alone 250000)) (lineLimit linesRoom) (upto day n)
 
 -- the book with the sheet finished, and with nothing done
 unfoldable pub ready : State
