@@ -17,7 +17,7 @@ use Rattle.records.specs.declared.Record.{Record}
 use Rattle.message.specs.Reader.{readOf}
 use Rattle.rows.specs.declared.Listing.{Listing}
 use Rattle.rows.specs.Rows.{rowLimit}
-use Rattle.numbers.proofs.Laws.{up-is}
+use Rattle.bounds.proofs.Laws.{up-is}
 use Rattle.counters.specs.Counting.{lastNumber, withWanted}
 use Rattle.counters.proofs.Sound.{sound-gives, sound-exactly}
 use Rattle.table.specs.Table.{numberTable, contentTable}

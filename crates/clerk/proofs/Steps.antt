@@ -12,7 +12,7 @@ use lib.Dec.{eqb}
 use lib.ListN.{length, getD, set, length-map}
 use lib.Seq.{getD-set-same, set-set}
 use Rattle.octets.specs.Run.{Bytes}
-use Rattle.numbers.proofs.Laws.{up-is}
+use Rattle.bounds.proofs.Laws.{up-is}
 use Rattle.answers.specs.Cases.{Case, given, inBook}
 use Rattle.records.specs.Fits.{RecordFits}
 use Rattle.message.specs.Reader.{readOf}

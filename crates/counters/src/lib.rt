@@ -1,9 +1,9 @@
 // The counters of a book: what moves together as one value. Each move returns the new value; whatever counters
 // arrive, it is total.
+use bounds::up;
 use kinds::Kind;
 use kinds::is_event;
 use kinds::makes_new;
-use numbers::up;
 ghost use mathlib.Core.Path.{_≡_};
 ghost use Rattle.counters.specs.Counting as Counting;
 ghost use Rattle.counters.specs.Phases as Phases;

@@ -1,7 +1,7 @@
 // A tape of any length, played in pieces as they come: what a piece leaves over is moved to its front, and the next is
 // read behind it.
+use bounds::lesser;
 use counters::Counters;
-use numbers::lesser;
 use octets::run::to_front;
 use tape::Stop;
 ghost use mathlib.Core.Path.{_≡_};

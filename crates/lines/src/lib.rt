@@ -1,6 +1,6 @@
 // Lines: one cell of bytes for each trade.
+use bounds::lesser;
 use cells::Found;
-use numbers::lesser;
 ghost use mathlib.Core.Path.{_≡_};
 ghost use Prim.Native.Nat.{_+_, _*_, _≤_};
 ghost use lib.ListN.{length};

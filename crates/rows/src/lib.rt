@@ -1,12 +1,12 @@
 // Rows: one cell of bytes for each listed symbol. The listings of the used rows, in their order, are the sheet of the
 // day.
+use bounds::lesser;
 use cells::Found;
-use numbers::lesser;
 ghost use mathlib.Core.Path.{_≡_};
 ghost use Prim.Native.Nat.{_+_, _*_, _≤_};
 ghost use lib.ListN.{length};
 ghost use Rattle.octets.specs.Run.{part};
-ghost use Rattle.numbers.specs.Low.{low};
+ghost use Rattle.eights.specs.Low.{low};
 ghost use Rattle.rows.specs.Cell.{rowCell};
 ghost use Rattle.rows.specs.Rows.{listingFrom, rowFrom, noRow, summaryAt, reportedAt};
 ghost use Rattle.rows.specs.Rows.{rowLimit, usedSheet, listingOf, rowIn};
@@ -67,7 +67,7 @@ fn name_at(rows: &[u8], at: usize) -> u64
     requires { ⌜ at + rowCell ≤ length (now rows) ⌝ }
     ensures { λ r. ⌜ r ≡ low (part (now (rows .entry)) at 8) ⌝ }
 {
-    numbers::low8(&rows[at..at + 8], 0)
+    eights::low8(&rows[at..at + 8], 0)
 }
 
 // Which used row is the first of the symbol. The eight bytes of a symbol are compared as one number.
@@ -75,7 +75,7 @@ pub fn find(rows: &[u8], used: usize, symbol: [u8; 8]) -> Found
     ensures { λ r. ⌜ r ≡ listingOf symbol (usedSheet (now (rows .entry)) used) ⌝ }
 {
     let n = lesser(used, limit(rows.len()));
-    let name = numbers::low8(&symbol, 0);
+    let name = eights::low8(&symbol, 0);
     let mut i: usize = 0;
     while i < n {
         if name_at(rows, i * CELL) == name {

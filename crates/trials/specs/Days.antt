@@ -37,7 +37,7 @@ use Rattle.rows.specs.Rows as Rows
 use Rattle.figures.specs.Figures as Figures
 use Rattle.walk.specs.Walking as Walking
 use Rattle.show.specs.Showing as Showing
-use Rattle.numbers.specs.Up as Up
+use Rattle.bounds.specs.Up as Up
 use Rattle.kinds.specs.Kinds as Kinds
 use Rattle.keys.specs.Keys as Keys
 use Rattle.table.specs.Table as Table

@@ -15,8 +15,8 @@ use Rattle.lines.specs.Cell.{atSymbol, atPrice, atSize, atCondition, atPlace, a
 use Rattle.lines.specs.Lines.{lineFrom}
 use Rattle.lines.specs.declared.Line.{Line}
 use Rattle.figures.specs.declared.Figures.{Figures}
-use Rattle.numbers.specs.Low.{low}
-use Rattle.numbers.proofs.Low.{Named, named-same}
+use Rattle.eights.specs.Low.{low}
+use Rattle.eights.proofs.Low.{Named, named-same}
 use Rattle.figures.specs.Figures.{sold}
 use Rattle.walk.specs.Walking.{counts, dealt, tally, fold}
 

@@ -18,7 +18,7 @@ ghost use lib.ListN.{length, getD};
 ghost use Rattle.octets.specs.Run.{part};
 ghost use Rattle.lines.specs.Cell.{lineCell, atSymbol, atLive};
 ghost use Rattle.lines.specs.Lines.{lineFrom, usedLines};
-ghost use Rattle.numbers.specs.Low.{low};
+ghost use Rattle.eights.specs.Low.{low};
 ghost use Rattle.figures.specs.Figures.{sold};
 ghost use Rattle.walk.specs.Walking.{dealt, figuresOf};
 
@@ -50,7 +50,7 @@ fn is_counted(lines: &[u8], at: usize, symbol: u64) -> bool
         return false;
     }
     let from = at + SYMBOL;
-    numbers::low8(&lines[from..from + 8], 0) == symbol
+    eights::low8(&lines[from..from + 8], 0) == symbol
 }
 
 // The figures with the trade of the line whose cell starts at an offset.
@@ -78,8 +78,8 @@ fn with_line(t: Figures, lines: &[u8], at: usize) -> Figures
 pub fn walk(lines: &[u8], used: usize, symbol: [u8; 8]) -> Figures
     ensures { λ r. ⌜ r ≡ figuresOf symbol (usedLines (now (lines .entry)) used) ⌝ }
 {
-    let n = numbers::lesser(used, lines::limit(lines.len()));
-    let name = numbers::low8(&symbol, 0);
+    let n = bounds::lesser(used, lines::limit(lines.len()));
+    let name = eights::low8(&symbol, 0);
     let mut t = Figures {
         volume: 0,
         count: 0,

@@ -1,10 +1,10 @@
 // The wall on paper: the columns' names, a row for each listed symbol, and the closing lines.
 use crate::input::Reading;
 use crate::input::Tape;
+use bounds::lesser;
 use counters::Counters;
 use libc::STDERR_FILENO;
 use libc::STDOUT_FILENO;
-use numbers::lesser;
 
 // Prints the whole wall.
 pub fn print(reading: Reading, rows: &[u8], lines: &[u8]) {

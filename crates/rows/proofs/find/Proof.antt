@@ -9,8 +9,8 @@ use lib.ListN.{length, getD}
 use mir.Syntax.{w8}
 use mir.Val.{Fits}
 use Rattle.octets.specs.Run.{tab, part, Bytes}
-use Rattle.numbers.specs.Low.{low}
-use Rattle.numbers.proofs.Low.{Named, named-same}
+use Rattle.eights.specs.Low.{low}
+use Rattle.eights.proofs.Low.{Named, named-same}
 use Rattle.cells.proofs.Laws.{find-on, find-off, find-end}
 use Rattle.cells.specs.Search.{first}
 use mathlib.Core.List.{List}

@@ -2,7 +2,7 @@
 -- Assumes nothing.
 use mathlib.Core.Path.{_∙_}
 use native.Mathlib.Omega.{arith}
-use Rattle.numbers.proofs.Low.{low-lent}
+use Rattle.eights.proofs.Low.{low-lent}
 use borrow.Author.Needs.{needs}
 use Rattle.rows.proofs.name_at.Statement.{statement}
 use Rattle.rows.proofs.name_at.Tie as tie

@@ -1,14 +1,14 @@
--- `numbers::low8` meets its contract.
+-- `eights::low8` meets its contract.
 -- Assumes nothing.
 use borrow.Author.Needs.{needs}
 use Prim.Native.Nat.{ℕ}
 use mathlib.Core.Path.{ap, _∙_}
 use Rattle.octets.specs.Run.{Bytes}
-use Rattle.numbers.specs.Low.{low}
+use Rattle.eights.specs.Low.{low}
 use Rattle.numbers.specs.Number.{digits}
 use Rattle.numbers.proofs.Trips.{digits-part}
-use Rattle.numbers.proofs.low8.Statement.{statement}
-use Rattle.numbers.proofs.low8.Tie as tie
+use Rattle.eights.proofs.low8.Statement.{statement}
+use Rattle.eights.proofs.low8.Tie as tie
 
 left-requires : tie.Need-left-requires
 left-requires c κs = search needs

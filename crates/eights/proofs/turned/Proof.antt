@@ -1,10 +1,10 @@
--- `numbers::turned` meets its contract.
+-- `eights::turned` meets its contract.
 -- Assumes nothing.
 use native.Mathlib.Omega.{arith}
 use Rattle.numbers.specs.Number.{digits}
-use Rattle.numbers.specs.Low.{low}
-use Rattle.numbers.proofs.turned.Statement.{statement}
-use Rattle.numbers.proofs.turned.Tie as tie
+use Rattle.eights.specs.Low.{low}
+use Rattle.eights.proofs.turned.Statement.{statement}
+use Rattle.eights.proofs.turned.Tie as tie
 
 mul-result : tie.Need-mul-result
 mul-result c = omega arith

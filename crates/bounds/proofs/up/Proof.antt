@@ -1,10 +1,10 @@
--- `numbers::up` meets its contract.
+-- `bounds::up` meets its contract.
 -- Assumes nothing.
 use native.Mathlib.Omega.{arith}
-use Rattle.numbers.specs.Up as Up
+use Rattle.bounds.specs.Up as Up
 use borrow.Author.Needs.{needs}
-use Rattle.numbers.proofs.up.Statement.{statement}
-use Rattle.numbers.proofs.up.Tie as tie
+use Rattle.bounds.proofs.up.Statement.{statement}
+use Rattle.bounds.proofs.up.Tie as tie
 
 add-result : tie.Need-add-result
 add-result c = search needs

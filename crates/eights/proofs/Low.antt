@@ -12,7 +12,7 @@ use lib.ListN.{length, take, drop, getD}
 use Rattle.octets.specs.Run.{tab, part, past, same, Bytes}
 use Rattle.octets.proofs.Laws.{part-length}
 use Rattle.octets.proofs.Trips.{same-is, whole, lent}
-use Rattle.numbers.specs.Low.{low}
+use Rattle.eights.specs.Low.{low}
 
 -- eight bytes, as two numbers of four
 pub low-eight : (m : List ℕ) (at : ℕ)
