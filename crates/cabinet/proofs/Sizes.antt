@@ -35,7 +35,7 @@ size-type which h = sym (ap sizeOf e ∙ List·getD-map lengthOf allKinds (which
     e = omega (arith, h)
 
 -- a room of so many bytes has so many rows or lines; no message is longer, and a C is as long; a record, the counters and a row
--- are as long, and so is a message of each type
+-- are as long, and so is a message of each type; past the end of the list there is no size
 pub record SizesAre : Type 0 where
   pub printed : sizes ≡ 30 ∷ 256 ∷ 40 ∷ 65536 ∷ 67 ∷ 80 ∷ 5 ∷ 15 ∷ printedLengths
   pub rows : (room : ℕ) → rowLimit room ≡ min (sizeOf 1) (room / sizeOf 0)
@@ -46,6 +46,7 @@ pub record SizesAre : Type 0 where
   pub counters : (c : Counters) → length (counterWords c) ≡ sizeOf 6
   pub figures : (r : RowShown) → length (rowWords r) ≡ sizeOf 7
   pub types : (place : ℕ) → lengthBy (letterOf (kindAt place)) ≡ sizeOf (8 + place)
+  pub none : (which : ℕ) → length sizes ≤ which → sizeOf which ≡ 0
 
 by-place : (place : ℕ) → lengthOf (kindAt place) ≡ sizeOf (8 + place)
 by-place place =
@@ -66,4 +67,5 @@ sizes-are =
       counters = λ c. refl;
       figures = λ r. refl;
       types = λ place. ap lengthOf (kind-again (kindAt place)) ∙ by-place place;
+      none = size-none;
     }

@@ -1,4 +1,4 @@
--- A message's type, by the letter that names it, and what document 01 says of several types at once.
+-- A message's type, by the letter that names it, and the traits of each type.
 -- Assumes nothing.
 use Prim.Native.Nat.{ℕ}
 use mathlib.Core.Bool.{Bool, true, false, cond, _&&_}

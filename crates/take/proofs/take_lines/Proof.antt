@@ -19,7 +19,7 @@ same-length c = search needs
 returns : tie.Need-returns
 returns c =
     let corrects = c .before .before .before .before in
-    let a = c .before .before .before .before .before .before .before .args in
+    let a = corrects .before .before .before .args in
     c .before .before .correct .ensures
     ∙ lines-corrected (a .kind) (a .lines .now) (a .used) (a .n) (a .r) (a .k)
     (sym (corrects .before .is-correction .ensures) ∙ corrects .if1 .taken)
@@ -37,7 +37,7 @@ returns-2 : tie.Need-returns-2
 returns-2 c =
     let names = c .before .before .before .before in
     let corrects = names .before .before in
-    let a = c .before .before .before .before .before .before .before .before .before .args in
+    let a = corrects .before .before .before .args in
     c .before .before .kill .ensures
     ∙ lines-killed (a .kind) (a .lines .now) (a .used) (a .n) (a .r) (a .k)
     (sym (corrects .before .is-correction .ensures) ∙ corrects .if1 .left)
@@ -59,7 +59,8 @@ returns-3 : tie.Need-returns-3
 returns-3 c =
     let makes = c .before .before .before .before .before in
     let names = makes .before .before in
-    let a = c .before .before .before .before .before .before .before .before .before .before .before .before .args in
+    let corrects = names .before .before in
+    let a = corrects .before .before .before .args in
     c .before .before .put .ensures
     ∙ ap (withLine (a .lines .now) (a .used)) (c .before .before .before .made-line .ensures)
     ∙ lines-added (a .kind) (a .lines .now) (a .used) (a .n) (a .r) (a .k)
@@ -69,7 +70,8 @@ returns-3 c =
 returns-4 : tie.Need-returns-4
 returns-4 c =
     let names = c .before .before in
-    let a = c .before .before .before .before .before .before .before .args in
+    let corrects = names .before .before in
+    let a = corrects .before .before .before .args in
     lines-left (a .kind) (a .lines .now) (a .used) (a .n) (a .r) (a .k)
     (sym (names .before .names-old .ensures) ∙ names .if2 .left)
     (sym (c .before .makes-new .ensures) ∙ c .if3 .left)

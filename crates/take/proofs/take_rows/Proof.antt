@@ -18,7 +18,7 @@ same-length c = search needs
 returns : tie.Need-returns
 returns c =
     let sums = c .before .before .before .before in
-    let a = c .before .before .before .before .before .before .before .args in
+    let a = sums .before .before .before .args in
     c .before .before .summarise .ensures
     ∙ rows-summed (a .kind) (a .rows .now) (a .r) (a .i) (sym (sums .before .is-summary .ensures) ∙ sums .if1 .taken)
 
@@ -35,7 +35,7 @@ returns-2 : tie.Need-returns-2
 returns-2 c =
     let sets = c .before .before .before .before in
     let sums = sets .before .before in
-    let a = c .before .before .before .before .before .before .before .before .before .args in
+    let a = sums .before .before .before .args in
     c .before .before .report .ensures
     ∙ rows-reported (a .kind) (a .rows .now) (a .r) (a .i) (sym (sums .before .is-summary .ensures) ∙ sums .if1 .left)
     (sym (sets .before .sets-volume .ensures) ∙ sets .if2 .taken)
@@ -43,7 +43,7 @@ returns-2 c =
 returns-3 : tie.Need-returns-3
 returns-3 c =
     let sums = c .before .before in
-    let a = c .before .before .before .before .before .args in
+    let a = sums .before .before .before .args in
     rows-left (a .kind) (a .rows .now) (a .r) (a .i) (sym (sums .before .is-summary .ensures) ∙ sums .if1 .left)
     (sym (c .before .sets-volume .ensures) ∙ c .if2 .left)
 
