@@ -40,7 +40,7 @@ use Rattle.book.specs.declared.Located.{Located}
 use Rattle.book.specs.declared.Shown.{Shown}
 use Rattle.book.specs.State.{State, withCounters, withRows, withLines, Outcome, Arrival, arrives, wantedIn, sheetOf, linesIn, basisOf}
 use Rattle.book.specs.State.{soundIn}
-use Rattle.book.specs.Calls.{closeTop, listTable, listCases, listAnswer, withListing, listed, numberCases, messageGiven, rowNamed}
+use Rattle.book.specs.Calls.{closeTop, listTable, listCases, listAnswer, listed, numberCases, messageGiven, rowNamed}
 use Rattle.book.specs.Calls.{lineNamed, taking, delivered, rowCases, rowAnswer, rowFound, located, shown}
 use Rattle.book.proofs.Demand1.{list-told, message-told, number-told, row-told, answer-content, answer-number, refused-keeps}
 

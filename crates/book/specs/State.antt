@@ -2,7 +2,7 @@
 -- further word of the counters changes none of them.
 -- Assumes nothing.
 use Prim.Native.Nat.{ℕ}
-use mathlib.Core.List.{List}
+use mathlib.Core.List.{List, []}
 use mathlib.Core.Bool.{Bool}
 use lib.ListN.{length}
 use Rattle.answers.specs.Answers.{numberOf}
@@ -24,6 +24,10 @@ pub record State : Type 0 where
 
 abbrev pub lent : Counters → List ℕ → List ℕ → State
 lent c rows lines = record { counters = c; rows = rows; lines = lines }
+
+-- a state that is lent no byte
+abbrev pub roomless : Counters → State
+roomless c = lent c [] []
 
 -- a state with one part set and all else equal
 abbrev pub withCounters : Counters → State → State

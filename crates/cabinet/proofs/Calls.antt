@@ -1,7 +1,7 @@
 -- What the call inside says of the values that were taken from words and bytes is what the exported one says of the words and bytes.
 -- Assumes nothing.
 use Prim.Native.Nat.{ℕ}
-use mathlib.Core.Path.{_≡_, refl, ap, _∙_}
+use mathlib.Core.Path.{_≡_, ap, _∙_}
 use mathlib.Core.List.{List}
 use Rattle.answers.specs.Answers.{numberOf}
 use Rattle.counters.specs.declared.Counters.{Counters}

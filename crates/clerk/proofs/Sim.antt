@@ -31,8 +31,8 @@ use Rattle.answers.specs.Cases.{given}
 use Rattle.table.specs.Table.{searched, contentTable}
 use Rattle.book.specs.Calls.{listTable}
 use Rattle.take.specs.Taking.{madeLine, correctedLine}
-use Rattle.clerk.specs.Steps.{Book, lineFound, killFound, linesFor, keeping, summing, changeFound, rowsFor, takenInto, usingUp, content}
-use Rattle.clerk.specs.Steps.{wantedDone}
+use Rattle.clerk.specs.Steps.{Book, lineFound, killFound, linesFor, keeping, summing, changeFound, rowsFor}
+use Rattle.clerk.specs.Steps.{takenInto, usingUp, content, wantedDone}
 use Rattle.clerk.specs.Clerk.{isIn, symbolsIn, sheetFrom, Taken, phaseAfter, Origin, originOf, names, trade, made, tradesBut}
 use Rattle.clerk.specs.Clerk.{tradesOf, basisAfter, answerTo, takenOf, summaryOf, reportedOf, rowOf, bookBy, clerkBook}
 use Rattle.clerk.specs.Arrivals.{play}
@@ -295,7 +295,8 @@ module _ (r : Record) (change : Row → Row) (g h : Listing → Row)
       ap₂ {C = List Row} (λ a b. a ∷ b) (miss l (or-false-left (same (l .symbol) (r .symbol)) _ d))
       (others sheet (or-false-right (same (l .symbol) (r .symbol)) _ d))
 
-  row-step : (sheet : List Listing) → NoRepeat (symbolsIn sheet) → changeFound change (map g sheet) (listingOf (r .symbol) sheet) ≡ map h sheet
+  row-step : (sheet : List Listing) → NoRepeat (symbolsIn sheet)
+      → changeFound change (map g sheet) (listingOf (r .symbol) sheet) ≡ map h sheet
   unfolding first
   row-step [] d = refl
   row-step (l ∷ sheet) d = go (same (l .symbol) (r .symbol)) refl (row-step sheet (d .1))

@@ -27,11 +27,12 @@ pub fn feed(c: Counters, rows: &mut [u8], lines: &mut [u8], piece: &mut [u8], n:
     let after = p.counters;
     let used = p.used;
     let stop = p.stop;
-    to_front(piece, used, k - used);
+    let held = k - used;
+    to_front(piece, used, held);
     Fed {
         counters: after,
         used: used,
-        held: k - used,
+        held: held,
         stop: stop,
     }
 }

@@ -177,7 +177,8 @@ stops-ends : (b : List ℕ) (w : Stop) → headOf b ≡ Stops w → (e : Entry) 
 stops-ends b w h e more z f = never (sym h ∙ ap headOf f ∙ entry-head e more z)
 
 -- bytes with an entry before them
-tape-more : {b : List ℕ} {es : List Entry} {rest : List ℕ} (e : Entry) → EntryFits e → Tape b es rest → Tape (entryBytes e ++ b) (e ∷ es) rest
+tape-more : {b : List ℕ} {es : List Entry} {rest : List ℕ} (e : Entry) → EntryFits e → Tape b es rest
+    → Tape (entryBytes e ++ b) (e ∷ es) rest
 tape-more {b} {es} {rest} e z t =
     record {
       bytes = ap (λ (x : List ℕ). entryBytes e ++ x) (t .bytes) ∙ sym (append-assoc (entryBytes e) (tapeOf es) rest);
@@ -219,9 +220,11 @@ pub split : (b : List ℕ) → Bytes b → Cut b
 split b h = cut-for (length b) b (omega arith) h
 
 -- two entries at the head of the same bytes are one, and the same bytes follow
-same-entry : (e e′ : Entry) (more more′ : List ℕ) → EntryFits e → EntryFits e′ → entryBytes e ++ more ≡ entryBytes e′ ++ more′ → (e ≡ e′) × (more ≡ more′)
+same-entry : (e e′ : Entry) (more more′ : List ℕ) → EntryFits e → EntryFits e′ → entryBytes e ++ more ≡ entryBytes e′ ++ more′
+    → (e ≡ e′) × (more ≡ more′)
 same-entry e e′ more more′ z z′ f =
-    let h : Whole (length (entryBytes e)) ≡ Whole (length (entryBytes e′)) = sym (entry-head e more z) ∙ ap headOf f ∙ entry-head e′ more′ z′ in
+    let h : Whole (length (entryBytes e)) ≡ Whole (length (entryBytes e′))
+    = sym (entry-head e more z) ∙ ap headOf f ∙ entry-head e′ more′ z′ in
     let n : length (entryBytes e) ≡ length (entryBytes e′) = cc in
     let t : take (length (entryBytes e)) (entryBytes e ++ more) ≡ take (length (entryBytes e′)) (entryBytes e′ ++ more′)
     = ap (λ (x : List ℕ). take (length (entryBytes e)) x) f ∙ ap (λ (x : ℕ). take x (entryBytes e′ ++ more′)) n in
@@ -276,7 +279,8 @@ end-is (k ∷ s) w e = go (eqb (bodyLength k) 0) refl (leb (bodyLength k) (lengt
     go false t true v = absurd (never (sym (rw (t, v) at e)))
     go false t false v = let f : Stops CutShort ≡ Stops w = rw (t, v) at e in let g : w ≡ CutShort = cc in rw t g
 
-ends-stops : (b : List ℕ) → Bytes b → ((e : Entry) (more : List ℕ) → EntryFits e → b ≡ entryBytes e ++ more → ⊥) → headOf b ≡ Stops (endOf b)
+ends-stops : (b : List ℕ) → Bytes b
+    → ((e : Entry) (more : List ℕ) → EntryFits e → b ≡ entryBytes e ++ more → ⊥) → headOf b ≡ Stops (endOf b)
 ends-stops b h n = go (headOf b) refl
   where
     go : (x : Head) → headOf b ≡ x → headOf b ≡ Stops (endOf b)

@@ -20,7 +20,7 @@ use Rattle.show.specs.declared.Net.the-variants.{NoNet, Amount}
 use Rattle.show.specs.declared.RowShown.{RowShown}
 use Rattle.rows.specs.declared.Listing.{Listing}
 use Rattle.counters.specs.Counting.{freshCounters}
-use Rattle.book.specs.State.{State, lent, arrives}
+use Rattle.book.specs.State.{State, roomless, withRows, withLines, arrives}
 use Rattle.book.specs.Calls.{listed, delivered, shown}
 use Rattle.octets.specs.Run as Run
 use Rattle.numbers.specs.Number as Number
@@ -193,7 +193,7 @@ listedEach s (l ∷ ls) = listedEach (listed s l .state) ls
 
 -- a fresh book in rooms for two rows and twelve lines and some bytes more, all 35 at first
 abbrev pub freshRooms : State
-freshRooms = lent freshCounters (replicate rowsRoom 35) (replicate linesRoom 35)
+freshRooms = withRows (replicate rowsRoom 35) (withLines (replicate linesRoom 35) (roomless freshCounters))
 
 -- a fresh book with the sheet finished
 unfoldable pub opened : List Listing → State

@@ -33,17 +33,14 @@ within : (c : tie.After-play) → c .play .result .used ≤ chosen c .lesser .re
 within c = used-fits _ _ _ _ (chosen c .lesser .ensures) (c .play .result) _ (c .play .ensures)
 
 -- the play, from where its left-over bytes are moved
-abbrev told : tie.After-to-front-arg → tie.After-play
-told c = c .before .before .before .before .before .before
+abbrev told : tie.After-after → tie.After-play
+told c = c .before .before .before .before .before
 
-sub-to-front : tie.Need-sub-to-front
-sub-to-front c = within (told c)
+sub-held : tie.Need-sub-held
+sub-held c = within (told c)
 
 to-front-requires : tie.Need-to-front-requires
 to-front-requires c κs = search needs
-
-sub-t11 : tie.Need-sub-t11
-sub-t11 c = within (told (c .before .before .before))
 
 same-length : tie.Need-same-length
 same-length c = search needs
@@ -57,7 +54,7 @@ same-length-3 c = search needs
 returns : tie.Need-returns
 returns c =
     let fronted = c .before .before in
-    let gone = told (fronted .before) in
+    let gone = told (fronted .before .before) in
     let p = gone .play in
     fed-is _ _ _ _ (chosen gone .lesser .ensures) (p .result) _ (p .ensures) _ (fronted .to-front .ensures)
 
@@ -69,9 +66,8 @@ feed-spec =
     slice-reshare-prefix-play
     slice-aggregate-play
     play-requires
-    sub-to-front
+    sub-held
     to-front-requires
-    sub-t11
     same-length
     same-length-2
     same-length-3
