@@ -10,7 +10,8 @@ use Rattle.kinds.specs.Kinds.{letterOf, allKinds, kindAt, kindOf}
 use Rattle.kinds.proofs.Promise.{kind-again}
 use Rattle.records.specs.declared.Record.{Record}
 use Rattle.records.specs.Fits.{RecordFits}
-use Rattle.packing.specs.Packing.{lengthOf, printedLengths, lengthBy}
+use Rattle.packing.specs.Layouts.{printedLengths}
+use Rattle.packing.specs.Packing.{lengthOf, lengthBy}
 use Rattle.packing.proofs.Lengths.{lengths-printed, longest-is, length-longest}
 use Rattle.counters.specs.declared.Counters.{Counters}
 use Rattle.show.specs.declared.RowShown.{RowShown}

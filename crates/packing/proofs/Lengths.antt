@@ -11,8 +11,8 @@ use lib.Dec.{eqb, leb}
 use Rattle.kinds.specs.declared.Kind.{Kind}
 use Rattle.kinds.specs.Kinds.{letterOf, allKinds, kindAmong, kindOf}
 use Rattle.kinds.proofs.Laws.{passes, every}
-use Rattle.packing.specs.Layouts.{layoutS, layoutT, layoutC, layoutJ}
-use Rattle.packing.specs.Packing.{lengthOf, printedLengths, longest, lengthBy}
+use Rattle.packing.specs.Layouts.{layoutS, layoutT, layoutC, layoutJ, printedLengths}
+use Rattle.packing.specs.Packing.{lengthOf, longest, lengthBy}
 
 -- ---- computed over the list of types
 

@@ -104,3 +104,7 @@ layoutOf Other = none
 -- and of a letter
 abbrev pub layoutBy : ℕ → Option Layout
 layoutBy k = layoutOf (kindOf k)
+
+-- the lengths as document 01 prints them: S, T, X, C, J
+abbrev pub printedLengths : List ℕ
+printedLengths = 6 ∷ 45 ∷ 45 ∷ 67 ∷ 34 ∷ []

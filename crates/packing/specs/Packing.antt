@@ -2,7 +2,7 @@
 -- record.
 -- Assumes nothing.
 use Prim.Native.Nat.{ℕ}
-use mathlib.Core.List.{List, [], _∷_}
+use mathlib.Core.List.{List, []}
 use mathlib.Core.Option.{Option, none, some}
 use lib.ListN.{getD}
 use Rattle.kinds.specs.declared.Kind.{Kind}
@@ -20,10 +20,6 @@ sizeIn (some l) = l .size
 -- the length of a type's messages; 0 of what is no type
 abbrev pub lengthOf : Kind → ℕ
 lengthOf k = sizeIn (layoutOf k)
-
--- as document 01 prints them: S, T, X, C, J
-abbrev pub printedLengths : List ℕ
-printedLengths = 6 ∷ 45 ∷ 45 ∷ 67 ∷ 34 ∷ []
 
 -- the length of the longest message, a C
 abbrev pub longest : ℕ

@@ -7,7 +7,8 @@ use native.Mathlib.Omega.{arith}
 use borrow.Author.Tests.{ne-eqb, not-true}
 use Prim.Native.Nat.{ℕ, suc, _+_}
 use lib.Dec.{eqb}
-use Rattle.packing.specs.Packing.{lengthOf, printedLengths, lengthBy}
+use Rattle.packing.specs.Layouts.{printedLengths}
+use Rattle.packing.specs.Packing.{lengthOf, lengthBy}
 use Rattle.packing.proofs.Lengths.{lengths-printed, lengths-long}
 use Rattle.kinds.specs.declared.Kind.{Kind}
 use Rattle.kinds.specs.Kinds.{letterOf, allKinds, kindAmong, kindOf}
