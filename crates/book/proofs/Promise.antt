@@ -101,14 +101,14 @@ deliverWith s a = (s .counters, (slice (s .rows), (slice (s .lines), (a .number,
 abbrev pub deliverThen : State → Arrival → DeliverExit deliverAt
 deliverThen s a = (s .counters, (slice (s .rows), (slice (s .lines), (a .number, (slice (a .message), tt)))))
 
-abbrev pub rowAt : RowLfts
-rowAt = someLfts (row.signature .lifetimes)
+abbrev pub readAt : RowLfts
+readAt = someLfts (row.signature .lifetimes)
 
-abbrev pub rowWith : State → List ℕ → RowArgs rowAt
-rowWith s symbol = (s .counters, (slice (s .rows), (slice (s .lines), (symbol, tt))))
+abbrev pub readWith : State → List ℕ → RowArgs readAt
+readWith s symbol = (s .counters, (slice (s .rows), (slice (s .lines), (symbol, tt))))
 
-abbrev pub rowThen : State → List ℕ → RowExit rowAt
-rowThen s symbol = (s .counters, (slice (s .rows), (slice (s .lines), (symbol, tt))))
+abbrev pub readThen : State → List ℕ → RowExit readAt
+readThen s symbol = (s .counters, (slice (s .rows), (slice (s .lines), (symbol, tt))))
 
 -- ---- a listing
 
@@ -159,16 +159,16 @@ module _ (κs : DeliverLfts) (a : DeliverArgs κs) where
 -- ---- a row's reading
 
 module _ (κs : RowLfts) (a : RowArgs κs) where
-  abbrev pub rowFrom : State
-  rowFrom = lent (a .0) (now (a .1 .0)) (now (a .1 .1 .0))
+  abbrev pub readFrom : State
+  readFrom = lent (a .0) (now (a .1 .0)) (now (a .1 .1 .0))
 
-  abbrev pub rowGiven : List ℕ
-  rowGiven = a .1 .1 .1 .0
+  abbrev pub readGiven : List ℕ
+  readGiven = a .1 .1 .1 .0
 
   pub row-one : (r r′ : Shown) (s s′ : RowExit κs)
       → row-reads.Learnt κs a r s → row-reads.Learnt κs a r′ s′ → r ≡ r′
   row-one r r′ s s′ h h′ = h ∙ sym h′
 
   -- what a caller is told, and nothing else
-  pub row-says : (r : Shown) (s : RowExit κs) → row-reads.Learnt κs a r s ≡ (r ≡ shown rowFrom rowGiven)
+  pub row-says : (r : Shown) (s : RowExit κs) → row-reads.Learnt κs a r s ≡ (r ≡ shown readFrom readGiven)
   row-says r s = refl

@@ -11,6 +11,7 @@ use Rattle.answers.specs.Cases.{Case, says, given, inBook}
 use Rattle.records.specs.declared.Record.{Record}
 use Rattle.message.specs.Reader.{readOf}
 use Rattle.lines.specs.Lines.{lineWith}
+use Rattle.rules.specs.Rules.{priceTop}
 use Rattle.rows.specs.declared.Listing.{Listing}
 use Rattle.rows.specs.Rows.{rowLimit, listingOf, rowIn, withRow}
 use Rattle.walk.specs.Walking.{figuresOf}
@@ -25,9 +26,9 @@ use Rattle.book.specs.State.{State, withCounters, withRows, withLines, O
 
 -- ---- listing
 
--- the highest close
+-- the highest close is the highest price
 abbrev pub closeTop : ℕ
-closeTop = 2000000000
+closeTop = priceTop
 
 -- worked from the wanted number, the sheet so far, how many rows there may be, and the listing
 unfoldable pub listTable : ℕ → List Listing → ℕ → Listing → List Case

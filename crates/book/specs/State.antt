@@ -1,5 +1,5 @@
--- What a call is lent, and what it leaves: each is one record. Contracts and theorems speak of the records, so that a further room or a
--- further word of the counters changes none of them.
+-- What a call is lent, and what it leaves: each is one record. Theorems speak of the records, so that a further room or a further word of
+-- the counters changes none of them; a contract names the rooms once, where it makes the record of them (`lent`).
 -- Assumes nothing.
 use Prim.Native.Nat.{ℕ}
 use mathlib.Core.List.{List, []}

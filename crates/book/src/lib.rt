@@ -5,6 +5,7 @@ use cells::Found;
 use counters::Counters;
 use kinds::kind_of;
 use rows::Listing;
+use rules::PRICE_TOP;
 use show::RowShown;
 use table::judge;
 use table::judge_number;
@@ -35,9 +36,6 @@ struct Located {
     row: usize,
 }
 
-// The highest close that a listing may have, in ten-thousandths.
-const CLOSE_TOP: u32 = 2000000000;
-
 // A fresh book. Starting one cannot be refused and touches no lent byte.
 pub fn fresh() -> Counters
     ensures { λ c. ⌜ c ≡ freshCounters ⌝ }
@@ -51,7 +49,7 @@ fn judge_listing(c: Counters, rows: &[u8], lines: &[u8], l: Listing) -> Answer
 {
     let symbol = l.symbol;
     if c.is_sound(rows.len(), lines.len()) {
-        if texts::is_text(&symbol) & (l.close <= CLOSE_TOP) {
+        if texts::is_text(&symbol) & (l.close <= PRICE_TOP) {
             if c.wanted != 1 {
                 return Answer::ListingLate;
             }

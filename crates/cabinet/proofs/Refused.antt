@@ -1,4 +1,4 @@
--- What a refused call leaves, said of the words and bytes that cross to C: everything as it was, or zeros.
+-- What a refused call leaves, said of what crosses to C: the rooms as they were, the words too where no number was used up, or zeros.
 -- Assumes nothing.
 use Prim.Native.Nat.{ℕ, _≤_}
 use mathlib.Core.Path.{_≡_, refl, ap, _∙_}

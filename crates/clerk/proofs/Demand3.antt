@@ -32,7 +32,7 @@ use Rattle.book.specs.State as State-of
 use Rattle.book.proofs.Demand1.{message-told, refused-keeps}
 use Rattle.book.proofs.Touches.{touches-only}
 use Rattle.book.proofs.Promise.{ListLfts, ListArgs, ListExit, DeliverLfts, DeliverArgs, DeliverExit, RowLfts, RowArgs, RowExit}
-use Rattle.book.proofs.Promise.{listFrom, listGiven, listLeft, deliverFrom, deliverGiven, deliverLeft, rowFrom, rowGiven}
+use Rattle.book.proofs.Promise.{listFrom, listGiven, listLeft, deliverFrom, deliverGiven, deliverLeft, readFrom, readGiven}
 use Rattle.book.proofs.fresh.Reads as fresh-reads
 use Rattle.book.proofs.list.Reads as list-reads
 use Rattle.book.proofs.deliver.Reads as deliver-reads
@@ -322,7 +322,7 @@ module _ (R L : ℕ) where
 -- the reading of a row
 pub data Reads : State → List ℕ → Shown → Type 1 where
   a-reading : (κs : RowLfts) (a : RowArgs κs) (r : Shown) (x : RowExit κs)
-      → row-reads.Learnt κs a r x → Reads (rowFrom κs a) (rowGiven κs a) r
+      → row-reads.Learnt κs a r x → Reads (readFrom κs a) (readGiven κs a) r
 
 reads-are : {s : State} {symbol : List ℕ} {r : Shown} → Reads s symbol r → r ≡ shown s symbol
 reads-are (a-reading κs a r x h) = h

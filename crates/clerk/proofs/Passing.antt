@@ -12,7 +12,7 @@ use Rattle.answers.specs.Cases.{Case, given}
 use Rattle.answers.proofs.Cases.{NoneApplies, none-applies}
 use Rattle.message.specs.declared.Reading.{Reading}
 use Rattle.rows.specs.declared.Listing.{Listing}
-use Rattle.counters.specs.Phases.{due}
+use Rattle.phases.specs.Phases.{due}
 use Rattle.keys.specs.Keys.{kindIn, oldKey}
 use Rattle.table.specs.Table.{Basis, isFound, deadAt, differsAt, isListed, contentTable}
 use Rattle.records.specs.declared.Record.{Record}

@@ -15,7 +15,7 @@ use Rattle.book.specs.declared.Said.{Said}
 use Rattle.book.specs.State.{State, withCounters, withRows, Outcome, Arrival}
 use Rattle.book.specs.Calls.{listAnswer, withListing, listed, delivered, shown}
 use Rattle.book.proofs.Demand1.{list-told, message-told}
-use Rattle.book.proofs.Promise.{listAt, listWith, listThen, deliverAt, deliverWith, deliverThen, rowAt, rowWith, rowThen}
+use Rattle.book.proofs.Promise.{listAt, listWith, listThen, deliverAt, deliverWith, deliverThen, readAt, readWith, readThen}
 use Rattle.clerk.proofs.Lent.{deliver-bytes}
 use Rattle.clerk.proofs.Demand3.{Lists, no-listing, a-listing, Delivers, no-message, a-message, Day, Reads, a-reading}
 
@@ -85,4 +85,4 @@ day-there rooms ls l bl e b =
 
 -- what a reading tells is told by some reading
 pub reading-there : (s : State) (symbol : List ℕ) → Reads s symbol (shown s symbol)
-reading-there s symbol = a-reading rowAt (rowWith s symbol) (shown s symbol) (rowThen s symbol) refl
+reading-there s symbol = a-reading readAt (readWith s symbol) (shown s symbol) (readThen s symbol) refl

@@ -24,7 +24,7 @@ use Rattle.lines.specs.Changed.{dead}
 use Rattle.rows.specs.Changed.{listedRow}
 use Rattle.rows.specs.declared.Listing.{Listing}
 use Rattle.kinds.proofs.Laws.{summary-sets}
-use Rattle.counters.specs.Phases.{phaseOf}
+use Rattle.phases.specs.Phases.{phaseOf}
 use Rattle.keys.specs.Keys.{kindIn, oldKey}
 use Rattle.clerk.specs.Messages.{eventIn, summaryIn, setsIn, namesIn, makesIn, keyIn, saleIn}
 use Rattle.answers.specs.Cases.{given}

@@ -33,7 +33,7 @@ use Rattle.rows.specs.Rows.{rowLimit, usedRows, sheetIn, isOf, listingOf, noRow
 use Rattle.rows.specs.Changed.{listedRow, summarised, ListingFits}
 use Rattle.rows.proofs.Slabs.{rows-put, rows-report, rows-summary, row-length, used-rows-length}
 use Rattle.counters.specs.declared.Counters.{Counters}
-use Rattle.counters.specs.Phases.{phaseOf, lastPhase}
+use Rattle.phases.specs.Phases.{phaseOf, lastPhase}
 use Rattle.counters.specs.Counting.{lastNumber, freshCounters, usedUp, oneRowMore, takenBy, sound}
 use Rattle.counters.specs.Counting.{withWanted, withPhase, withRowCount, withLineCount, withTaken}
 use Rattle.counters.proofs.Sound.{Within, sound-gives}

@@ -17,7 +17,7 @@ use Rattle.rows.specs.declared.Summary.the-variants.{NoSummary, HighLow}
 use Rattle.rows.specs.declared.Reported.{Reported}
 use Rattle.rows.specs.declared.Reported.the-variants.{NotSet, Volume}
 use Rattle.walk.specs.Walking.{figuresOf}
-use Rattle.counters.specs.Phases.{phaseOf}
+use Rattle.phases.specs.Phases.{phaseOf}
 use Rattle.keys.specs.Keys.{oldKey}
 use Rattle.table.specs.Table.{Basis, searched, contentTable}
 use Rattle.book.specs.Calls.{listTable}

@@ -19,7 +19,7 @@ use Rattle.rows.specs.declared.Listing.{Listing}
 use Rattle.rows.specs.declared.Row.{Row}
 use Rattle.rows.specs.Rows.{noRow, sheetIn, listingOf}
 use Rattle.rows.specs.Changed.{listedRow, reporting, summarised}
-use Rattle.counters.specs.Phases.{phaseOf}
+use Rattle.phases.specs.Phases.{phaseOf}
 use Rattle.keys.specs.Keys.{kindIn, oldKey}
 use Rattle.table.specs.Table.{Basis, searched, numberTable, contentTable}
 use Rattle.take.specs.Taking.{madeLine, correctedLine}

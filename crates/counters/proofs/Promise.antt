@@ -6,8 +6,6 @@ use Prim.Native.Nat.{ℕ}
 use Rattle.kinds.specs.declared.Kind.{Kind}
 use Rattle.counters.specs.declared.Counters.{Counters}
 use Rattle.counters.proofs.fresh.Reads as fresh-reads
-use Rattle.counters.proofs.phase_of.Reads as phase-of-reads
-use Rattle.counters.proofs.is_due.Reads as is-due-reads
 use Rattle.counters.proofs.Counters.use_up.Reads as use-up-reads
 use Rattle.counters.proofs.Counters.advance.Reads as advance-reads
 use Rattle.counters.proofs.Counters.count_taken.Reads as count-taken-reads
@@ -18,15 +16,6 @@ use Rattle.counters.proofs.Counters.is_sound.Reads as is-sound-reads
 
 pub fresh-one : (r r′ : Counters) → fresh-reads.Learnt tt tt r tt → fresh-reads.Learnt tt tt r′ tt → r ≡ r′
 fresh-one r r′ h h′ = h ∙ sym h′
-
-pub phase-of-one : (e e₁ e₂ : ℕ) (p p′ : ℕ) → phase-of-reads.Learnt tt (e, tt) p (e₁, tt)
-    → phase-of-reads.Learnt tt (e, tt) p′ (e₂, tt) → p ≡ p′
-phase-of-one e e₁ e₂ p p′ h h′ = h ∙ sym h′
-
-pub is-due-one : (p p₁ p₂ : ℕ) (k k₁ k₂ : Kind) (e e₁ e₂ : ℕ) (b b′ : Bool)
-    → is-due-reads.Learnt tt (p, (k, (e, tt))) b (p₁, (k₁, (e₁, tt)))
-    → is-due-reads.Learnt tt (p, (k, (e, tt))) b′ (p₂, (k₂, (e₂, tt))) → b ≡ b′
-is-due-one p p₁ p₂ k k₁ k₂ e e₁ e₂ b b′ h h′ = h ∙ sym h′
 
 module _ (c c₁ c₂ : Counters) (r r′ : Counters) where
   pub use-up-one : use-up-reads.Learnt tt (c, tt) r (c₁, tt) → use-up-reads.Learnt tt (c, tt) r′ (c₂, tt) → r ≡ r′

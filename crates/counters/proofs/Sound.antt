@@ -8,7 +8,7 @@ use native.Mathlib.Omega.{arith}
 use borrow.Author.Tests.{leb-true, leb-false}
 use Rattle.lines.specs.Lines.{lineLimit}
 use Rattle.rows.specs.Rows.{rowLimit}
-use Rattle.counters.specs.Phases.{lastPhase}
+use Rattle.phases.specs.Phases.{lastPhase}
 use Rattle.counters.specs.declared.Counters.{Counters}
 use Rattle.counters.specs.Counting.{Unsound, sound}
 

@@ -9,7 +9,7 @@ use Rattle.kinds.specs.declared.Kind.{Kind}
 use Rattle.kinds.specs.Kinds.{isEvent, makesNew}
 use Rattle.lines.specs.Lines.{lineLimit}
 use Rattle.rows.specs.Rows.{rowLimit}
-use Rattle.counters.specs.Phases.{phaseOf, lastPhase}
+use Rattle.phases.specs.Phases.{phaseOf, lastPhase}
 use Rattle.counters.specs.declared.Counters.{Counters}
 
 -- the greatest number that a message may bear
@@ -37,7 +37,8 @@ withLineCount n c = record { wanted = c .wanted; phase = c .phase; rows = c .row
 abbrev pub withTaken : ℕ → Counters → Counters
 withTaken n c = record { wanted = c .wanted; phase = c .phase; rows = c .rows; lines = c .lines; taken = n }
 
--- ---- each move. `up` is one more, and stays at the greatest number of 64 bits; in a sound book nothing comes near that (`up-is`)
+-- ---- each move. `up` is one more, and stays at the greatest number of 64 bits; in a sound book nothing comes near that (`sound-gives`),
+-- and below it `up` is one more (`up-is`)
 
 -- used up: wanted number up by one, all else equal
 abbrev pub usedUp : Counters → Counters

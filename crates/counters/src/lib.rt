@@ -4,9 +4,10 @@ use bounds::up;
 use kinds::Kind;
 use kinds::is_event;
 use kinds::makes_new;
+use phases::LAST_PHASE;
+use phases::phase_of;
 ghost use mathlib.Core.Path.{_≡_};
 ghost use Rattle.counters.specs.Counting as Counting;
-ghost use Rattle.counters.specs.Phases as Phases;
 
 // The wanted number, the phase, and the counts: rows used, lines used, messages taken. The phase is 0 before any
 // event was taken, then 1 to 6 for O S Q M E C.
@@ -21,9 +22,6 @@ pub struct Counters {
 // The greatest number that a message may bear.
 pub const LAST_NUMBER: u64 = 4294967295;
 
-// The phase that event C, the last, begins.
-const LAST_PHASE: u64 = 6;
-
 // What a book starts from.
 pub fn fresh() -> Counters
     ensures { λ c. ⌜ c ≡ Counting.freshCounters ⌝ }
@@ -35,32 +33,6 @@ pub fn fresh() -> Counters
         lines: 0,
         taken: 0,
     }
-}
-
-// The phase that an event begins: 1 to 6 for O S Q M E C, 0 for any other byte.
-pub fn phase_of(event: u8) -> u64
-    ensures { λ p. ⌜ p ≡ Phases.phaseOf event ⌝ }
-{
-    match event {
-        b'O' => 1,
-        b'S' => 2,
-        b'Q' => 3,
-        b'M' => 4,
-        b'E' => 5,
-        b'C' => 6,
-        _ => 0,
-    }
-}
-
-// Whether a message of a type is due: an event that comes later than the last one taken, any other between the first
-// event and C.
-pub fn is_due(phase: u64, kind: Kind, event: u8) -> bool
-    ensures { λ r. ⌜ r ≡ Phases.due phase kind event ⌝ }
-{
-    if is_event(kind) {
-        return phase < phase_of(event);
-    }
-    (0 < phase) & (phase < LAST_PHASE)
 }
 
 impl Counters {

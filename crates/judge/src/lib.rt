@@ -1,5 +1,10 @@
 // Whether a record keeps the rules of its type, asked of its eighty bytes, so that no record is copied to be judged.
+use kinds::C_LETTER;
+use kinds::J_LETTER;
 use kinds::Kind;
+use kinds::S_LETTER;
+use kinds::T_LETTER;
+use kinds::X_LETTER;
 use numbers::number4;
 use records::CENTRE;
 use records::CLASS;
@@ -97,7 +102,7 @@ fn trade_ok(b: &[u8; RECORD], letter: u8) -> bool
 fn kept_s(b: &[u8; RECORD]) -> bool
     ensures { λ r. ⌜ r ≡ Held.kept layoutS (recordOf (now (b .entry))) ⌝ }
 {
-    time_ok(number4(b, TIME)) & (b[LETTER] == b'S') & event_ok(b[EVENT])
+    time_ok(number4(b, TIME)) & (b[LETTER] == S_LETTER) & event_ok(b[EVENT])
 }
 
 // T and X: the volume has no rule.
@@ -110,7 +115,7 @@ fn kept_t(b: &[u8; RECORD], letter: u8) -> bool
 fn kept_c(b: &[u8; RECORD]) -> bool
     ensures { λ r. ⌜ r ≡ Held.kept layoutC (recordOf (now (b .entry))) ⌝ }
 {
-    let head = trade_ok(b, b'C');
+    let head = trade_ok(b, C_LETTER);
     let price = number4(b, NEW_SALE + PRICE);
     let size = number4(b, NEW_SALE + SIZE);
     sale_ok(b, head, NEW_SALE, price, size)
@@ -120,7 +125,7 @@ fn kept_j(b: &[u8; RECORD]) -> bool
     ensures { λ r. ⌜ r ≡ Held.kept layoutJ (recordOf (now (b .entry))) ⌝ }
 {
     time_ok(number4(b, TIME))
-        & (b[LETTER] == b'J')
+        & (b[LETTER] == J_LETTER)
         & text(b, SYMBOL, SYMBOL_WIDTH)
         & class_ok(b[CLASS])
         & summary_price_ok(number4(b, HIGH))
@@ -135,8 +140,8 @@ pub fn kept(b: &[u8; RECORD], kind: Kind) -> bool
 {
     match kind {
         Kind::Event => kept_s(b),
-        Kind::Trade => kept_t(b, b'T'),
-        Kind::Cancel => kept_t(b, b'X'),
+        Kind::Trade => kept_t(b, T_LETTER),
+        Kind::Cancel => kept_t(b, X_LETTER),
         Kind::Correction => kept_c(b),
         Kind::Summary => kept_j(b),
         Kind::Other => false,
@@ -176,8 +181,8 @@ pub fn lawful(b: &[u8; RECORD], kind: Kind) -> bool
 {
     match kind {
         Kind::Event => lawful_s(b),
-        Kind::Trade => lawful_t(b, b'T'),
-        Kind::Cancel => lawful_t(b, b'X'),
+        Kind::Trade => lawful_t(b, T_LETTER),
+        Kind::Cancel => lawful_t(b, X_LETTER),
         Kind::Correction => lawful_c(b),
         Kind::Summary => lawful_j(b),
         Kind::Other => false,

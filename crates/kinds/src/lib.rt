@@ -1,4 +1,5 @@
-// A message's type. Its letter is asked here and nowhere else; whoever goes by the type goes by its `Kind`.
+// A message's type, which its letter names. The letters stand here and nowhere else; whoever goes by the type goes by
+// its `Kind`, and by what `traits_of` says of it.
 ghost use mathlib.Core.Path.{_≡_};
 ghost use Rattle.kinds.specs.Kinds.{kindOf, kindAt, traitsOf};
 ghost use Rattle.kinds.specs.Kinds.{isEvent, isCorrection, isSummary, namesOld, makesNew, setsVolume};
@@ -18,16 +19,27 @@ pub enum Kind {
     Other,
 }
 
+// The letters.
+pub const S_LETTER: u8 = b'S';
+
+pub const T_LETTER: u8 = b'T';
+
+pub const X_LETTER: u8 = b'X';
+
+pub const C_LETTER: u8 = b'C';
+
+pub const J_LETTER: u8 = b'J';
+
 // The type that a letter names.
 pub fn kind_of(letter: u8) -> Kind
     ensures { λ k. ⌜ k ≡ kindOf letter ⌝ }
 {
     match letter {
-        b'S' => Kind::Event,
-        b'T' => Kind::Trade,
-        b'X' => Kind::Cancel,
-        b'C' => Kind::Correction,
-        b'J' => Kind::Summary,
+        S_LETTER => Kind::Event,
+        T_LETTER => Kind::Trade,
+        X_LETTER => Kind::Cancel,
+        C_LETTER => Kind::Correction,
+        J_LETTER => Kind::Summary,
         _ => Kind::Other,
     }
 }

@@ -3,18 +3,18 @@
 -- Assumes nothing.
 use mathlib.Core.Path.{_≡_, refl}
 use mathlib.Core.Bool.{Bool, true, _&&_}
-use mathlib.Core.List.{List, [], _∷_, _++_}
+use mathlib.Core.List.{List, [], _∷_, _++_, map}
 use Prim.Native.Nat.{ℕ}
 use lib.Dec.{eqb}
-use lib.ListN.{replicate, take}
+use lib.ListN.{getD, replicate, take}
 use Rattle.octets.specs.Run.{tab, part}
 use Rattle.numbers.specs.Number.{be, digits}
 use Rattle.texts.specs.Text.{text}
 use Rattle.conditions.specs.Conditions.{levelAt, conditionMarks}
-use Rattle.kinds.specs.Kinds.{kindOf}
+use Rattle.kinds.specs.Kinds.{allKinds, kindOf}
 use Rattle.answers.specs.Answers.{numberOf}
 use Rattle.layout.specs.Tables.{speltBy, obeysBy, Each}
-use Rattle.packing.specs.Layouts.{layoutS, layoutT, layoutC, layoutJ}
+use Rattle.packing.specs.Layouts.{letterPlace, layoutS, layoutT, layoutC, layoutJ}
 use Rattle.message.specs.Reader.{readIn, readOf}
 use Rattle.message.specs.Obeying.{Obeys}
 use Rattle.layouts.proofs.Demand2.{read-exactly}
@@ -70,6 +70,10 @@ computed : (right cases ≡ true) × Each (λ m. numberOf (readOf m .answer) ≡
 unfolding tab part be digits text levelAt conditionMarks kindOf speltBy obeysBy layoutS layoutT layoutC layoutJ readIn readOf
 computed = (refl, (refl, (refl, (refl, (refl, (refl, tt))))))
 
+computed-types : map (λ m. kindOf (getD m letterPlace 0)) samples ≡ allKinds
+unfolding kindOf digits
+computed-types = refl
+
 pub read-cases : right cases ≡ true
 read-cases = computed .0
 
@@ -77,5 +81,10 @@ obeys-each : (ms : List (List ℕ)) → Each (λ m. numberOf (readOf m .answer) 
 obeys-each [] h = tt
 obeys-each (m ∷ ms) h = (read-exactly m .zero .0 (h .0), obeys-each ms (h .1))
 
-pub some-obey : Each Obeys samples
-some-obey = obeys-each samples (computed .1)
+-- not empty: a message of each type of the list obeys
+pub record SomeObey : Type 0 where
+  pub types : map (λ m. kindOf (getD m letterPlace 0)) samples ≡ allKinds
+  pub obey : Each Obeys samples
+
+pub some-obey : SomeObey
+some-obey = record { types = computed-types; obey = obeys-each samples (computed .1) }

@@ -6,6 +6,7 @@ use mathlib.Core.List.{List, [], _∷_}
 use mathlib.Core.Bool.{Bool}
 use Rattle.texts.specs.Text as Texts
 use Rattle.conditions.specs.Conditions.{among, conditionMarks}
+use Rattle.phases.specs.Phases.{events}
 use Rattle.layout.specs.Forms.{Range, any, upTo, within}
 
 -- 0 to 86,399,999 milliseconds past midnight
@@ -14,7 +15,7 @@ time = upTo 86399999
 
 -- one of O S Q M E C
 abbrev pub event : ℕ → Bool
-event e = among (79 ∷ 83 ∷ 81 ∷ 77 ∷ 69 ∷ 67 ∷ []) e
+event e = among events e
 
 -- Q (Nasdaq), L (TRF), B (BX), X (PSX)
 abbrev pub centre : ℕ → Bool
@@ -28,13 +29,17 @@ class c = among (81 ∷ 78 ∷ 65 ∷ 80 ∷ 90 ∷ 66 ∷ []) c
 abbrev pub text : List ℕ → Bool
 text xs = Texts.text xs
 
+-- the highest price, in ten-thousandths
+abbrev pub priceTop : ℕ
+priceTop = 2000000000
+
 -- a trade's price: 1 to 2,000,000,000 ten-thousandths
 abbrev pub tradePrice : Range
-tradePrice = within 1 2000000000
+tradePrice = within 1 priceTop
 
 -- each of J's three prices: 0 to 2,000,000,000
 abbrev pub summaryPrice : Range
-summaryPrice = upTo 2000000000
+summaryPrice = upTo priceTop
 
 -- 1 to 4,294,967,295
 abbrev pub size : Range

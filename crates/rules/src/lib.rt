@@ -1,9 +1,13 @@
 // The field rules of document 01, each asked of one value. Which layout asks which rule of which field is said by the
-// tables in `message`. The rule of a symbol or a control is `texts::is_text`; a consolidated volume has none.
+// tables in `packing`. The rule of a symbol or a control is `texts::is_text`; a consolidated volume has none.
+use phases::phase_of;
 ghost use mathlib.Core.Path.{_≡_};
 ghost use mathlib.Core.List.{[], _∷_};
 ghost use Rattle.layout.specs.Forms.{inside};
 ghost use Rattle.rules.specs.Rules as Rules;
+
+// The highest price, in ten-thousandths.
+pub const PRICE_TOP: u32 = 2000000000;
 
 // Whether a time is within the day. It may go backwards from message to message: nobody asks that here.
 pub fn time_ok(t: u32) -> bool
@@ -16,7 +20,7 @@ pub fn time_ok(t: u32) -> bool
 pub fn event_ok(e: u8) -> bool
     ensures { λ r. ⌜ r ≡ Rules.event e ⌝ }
 {
-    (e == b'O') | (e == b'S') | (e == b'Q') | (e == b'M') | (e == b'E') | (e == b'C')
+    phase_of(e) != 0
 }
 
 // Whether a byte is one of the four centres.
@@ -37,14 +41,14 @@ pub fn class_ok(c: u8) -> bool
 pub fn price_ok(p: u32) -> bool
     ensures { λ r. ⌜ r ≡ inside Rules.tradePrice p ⌝ }
 {
-    (1 <= p) & (p <= 2000000000)
+    (1 <= p) & (p <= PRICE_TOP)
 }
 
 // Whether a price may stand in a summary: there 0 says that there is none.
 pub fn summary_price_ok(price: u32) -> bool
     ensures { λ r. ⌜ r ≡ inside Rules.summaryPrice price ⌝ }
 {
-    price <= 2000000000
+    price <= PRICE_TOP
 }
 
 // Whether a size may stand in a trade: any that four bytes hold but 0.

@@ -12,7 +12,7 @@ use Rattle.answers.specs.Answers.{numberOf, answerOf}
 use Rattle.answers.specs.declared.Answer.{Answer}
 use Rattle.kinds.specs.declared.Kind.{Kind}
 use Rattle.kinds.specs.Kinds.{isEvent, makesNew}
-use Rattle.counters.specs.Phases.{due}
+use Rattle.phases.specs.Phases.{due}
 use Rattle.records.specs.declared.Record.{Record}
 use Rattle.lines.specs.declared.Line.{Line}
 use Rattle.cells.specs.declared.Found.{Found}

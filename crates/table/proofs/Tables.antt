@@ -28,7 +28,7 @@ use Rattle.lines.specs.Lines.{lineLimit, usedLines, noLine}
 use Rattle.rows.specs.Rows.{rowLimit, usedRows, usedSheet, listingOf}
 use Rattle.lines.proofs.Slabs.{used-lines-length}
 use Rattle.rows.proofs.Slabs.{used-rows-length}
-use Rattle.counters.specs.Phases.{due}
+use Rattle.phases.specs.Phases.{due}
 use Rattle.counters.specs.Counting.{lastNumber}
 use Rattle.keys.specs.Keys.{kindIn, oldKey, newKey, matches}
 use Rattle.table.specs.declared.Verdict.{Verdict}

@@ -18,7 +18,7 @@ use Rattle.lines.specs.declared.Line.{Line}
 use Rattle.lines.specs.Lines.{lineLimit, usedLines, lineWith, noLine}
 use Rattle.rows.specs.declared.Listing.{Listing}
 use Rattle.rows.specs.Rows.{usedSheet, listingOf}
-use Rattle.counters.specs.Phases.{due}
+use Rattle.phases.specs.Phases.{due}
 use Rattle.counters.specs.Counting.{lastNumber}
 use Rattle.keys.specs.Keys.{kindIn, oldKey, newKey, matches}
 

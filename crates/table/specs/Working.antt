@@ -18,7 +18,7 @@ use Rattle.lines.specs.declared.Line.{Line}
 use Rattle.lines.specs.Lines.{noLine}
 use Rattle.rows.specs.declared.Listing.{Listing}
 use Rattle.rows.specs.Rows.{listingOf}
-use Rattle.counters.specs.Phases.{due}
+use Rattle.phases.specs.Phases.{due}
 use Rattle.keys.specs.Keys.{oldKey, newKey, matches}
 use Rattle.table.specs.declared.Verdict.{Verdict}
 use Rattle.table.specs.Table.{Ledger, Basis}

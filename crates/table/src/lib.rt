@@ -2,7 +2,6 @@
 use answers::Answer;
 use cells::Found;
 use counters::LAST_NUMBER;
-use counters::is_due;
 use keys::is_match;
 use keys::new_key;
 use keys::old_key;
@@ -11,6 +10,7 @@ use kinds::is_event;
 use kinds::makes_new;
 use kinds::names_old;
 use message::Reading;
+use phases::is_due;
 use records::Record;
 ghost use mathlib.Core.Path.{_≡_};
 ghost use Rattle.answers.specs.Answers.{answerOf};

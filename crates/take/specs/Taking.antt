@@ -64,7 +64,7 @@ linesBy kind m used n r k =
 abbrev pub reported : List ℕ → Record → ℕ → List ℕ
 reported m r i = withReport m i (r .consolidated)
 
--- J keeps its high and low in the row
+-- J sets it too, and keeps its high and low in the row
 abbrev pub summed : List ℕ → Record → ℕ → List ℕ
 summed m r i = reported (withSummary m i (r .high) (r .low)) r i
 

@@ -30,6 +30,9 @@ const CLOSE: usize = 4;
 
 const NUMBER: usize = 4;
 
+// The kind of a listing.
+const LISTING: u8 = b'L';
+
 // Where the close and the message stand in their entries; the symbol and the number stand behind the kind.
 const CLOSE_AT: usize = KIND + SYMBOL;
 
@@ -39,7 +42,7 @@ const MESSAGE_AT: usize = KIND + NUMBER;
 fn body_length(letter: u8) -> usize
     ensures { λ n. ⌜ n ≡ bodyLength letter ⌝ }
 {
-    if letter == b'L' {
+    if letter == LISTING {
         return SYMBOL + CLOSE;
     }
     let n = length_of(kind_of(letter));
@@ -100,7 +103,7 @@ pub(crate) fn play_entry(c: Counters, rows: &mut [u8], lines: &mut [u8], bytes: 
     ensures { λ r. ⌜ lent r (now (rows .exit)) (now (lines .exit))
         ≡ acted (lent c (now (rows .entry)) (now (lines .entry))) (entryOf (now (bytes .entry))) ⌝ }
 {
-    if byte(bytes, 0) == b'L' {
+    if byte(bytes, 0) == LISTING {
         return list_entry(c, rows, lines, bytes);
     }
     deliver_entry(c, rows, lines, bytes)

@@ -1,20 +1,24 @@
 -- The phases of a day, which its events begin, and which messages are due in each.
 -- Assumes nothing.
-use Prim.Native.Nat.{ℕ}
+use Prim.Native.Nat.{ℕ, suc}
+use mathlib.Core.List.{List, [], _∷_}
 use mathlib.Core.Bool.{Bool, cond, _&&_}
 use lib.Dec.{eqb, ltb}
 use Rattle.kinds.specs.declared.Kind.{Kind}
 use Rattle.kinds.specs.Kinds.{isEvent}
 
--- 0 before any event, then 1 to 6 for O S Q M E C
+-- the events, in the order in which they come: O S Q M E C
+abbrev pub events : List ℕ
+events = 79 ∷ 83 ∷ 81 ∷ 77 ∷ 69 ∷ 67 ∷ []
+
+-- which one of a list a byte is, counted from a number on; 0 if it is none
+abbrev pub countFrom : ℕ → List ℕ → ℕ → ℕ
+countFrom n [] event = 0
+countFrom n (e ∷ es) event = cond (eqb event e) n (countFrom (suc n) es event)
+
+-- the phase that an event begins: 1 to 6; 0, which is that of a day before any event, for a byte that is none
 abbrev pub phaseOf : ℕ → ℕ
-phaseOf event =
-    cond (eqb event 79) 1
-    (cond (eqb event 83) 2
-    (cond (eqb event 81) 3
-    (cond (eqb event 77) 4
-    (cond (eqb event 69) 5
-    (cond (eqb event 67) 6 0)))))
+phaseOf event = countFrom 1 events event
 
 -- the phase that event C, the last, begins
 abbrev pub lastPhase : ℕ

@@ -1,8 +1,8 @@
--- `counters::phase_of` meets its contract.
+-- `phases::phase_of` meets its contract.
 -- Assumes nothing.
 use borrow.Author.Tests.{ne-eqb}
-use Rattle.counters.proofs.phase_of.Statement.{statement}
-use Rattle.counters.proofs.phase_of.Tie as tie
+use Rattle.phases.proofs.phase_of.Statement.{statement}
+use Rattle.phases.proofs.phase_of.Tie as tie
 
 returns : tie.Need-returns
 returns c = rw (c .match .keys1)

@@ -1,9 +1,9 @@
--- `counters::is_due` meets its contract.
+-- `phases::is_due` meets its contract.
 -- Assumes nothing.
 use mathlib.Core.Path.{sym, _∙_}
 use borrow.Author.Needs.{needs}
-use Rattle.counters.proofs.is_due.Statement.{statement}
-use Rattle.counters.proofs.is_due.Tie as tie
+use Rattle.phases.proofs.is_due.Statement.{statement}
+use Rattle.phases.proofs.is_due.Tie as tie
 
 is-event-requires : tie.Need-is-event-requires
 is-event-requires c κs = search needs
