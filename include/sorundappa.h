@@ -41,7 +41,9 @@ enum sorundappa_answer {
     SORUNDAPPA_NO_SPACE = 18        /* writer: the lent space is shorter than the message */
 };
 
-/* The words of a book's counters. A phase is 0 before any event was taken, then 1 to 6 for O S Q M E C. */
+/* The words of a book's counters. A phase is 0 before any event was taken, then 1 to 6 for O S Q M E C. The book is unsound, answer 17,
+ * if the wanted number is 0 or above 4,294,967,296, the phase above 6, more rows or lines are used than the rooms that are lent hold
+ * (whole cells only, and at most 256 and 65,536), or as many messages are taken as the wanted number or more. */
 enum sorundappa_counter {
     SORUNDAPPA_WANTED,
     SORUNDAPPA_PHASE,
