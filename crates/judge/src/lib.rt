@@ -37,13 +37,13 @@ ghost use lib.ListN.{length};
 ghost use Rattle.octets.specs.Run.{part, all};
 ghost use Rattle.rules.specs.Rules as Rules;
 ghost use Rattle.records.specs.Held as Held;
-ghost use Rattle.records.specs.Packed.{recordOf};
+ghost use Rattle.records.specs.Packed.{recordLength, recordOf};
 ghost use Rattle.packing.specs.Layouts.{toCondition, layoutS, layoutT, layoutC, layoutJ, layoutOf};
 ghost use Rattle.judge.specs.Judged.{keptIn, lawfulIn, rulesOf, saleRules};
 
 // Whether n bytes are all zero. It looks at every one: that is faster than to stop at the first that is not.
 fn none(b: &[u8; RECORD], at: usize, n: usize) -> bool
-    requires { ⌜ at + n ≤ 80 ⌝ }
+    requires { ⌜ at + n ≤ recordLength ⌝ }
     ensures { λ r. ⌜ r ≡ all 0 (part (now (b .entry)) at n) ⌝ }
 {
     let mut clear = true;
@@ -65,7 +65,7 @@ fn text(b: &[u8], at: usize, n: usize) -> bool
 
 // Whether four bytes are a condition.
 fn condition(b: &[u8; RECORD], at: usize) -> bool
-    requires { ⌜ at + 4 ≤ 80 ⌝ }
+    requires { ⌜ at + 4 ≤ recordLength ⌝ }
     ensures { λ r. ⌜ r ≡ Rules.condition (part (now (b .entry)) at 4) ⌝ }
 {
     rules::condition_ok(b[at], b[at + 1], b[at + 2], b[at + 3])
@@ -74,7 +74,7 @@ fn condition(b: &[u8; RECORD], at: usize) -> bool
 // The rules of the trade that stands from a place on, behind another test. Its price and its size are read by the
 // caller, who knows the place beforehand.
 fn sale_ok(b: &[u8; RECORD], held: bool, at: usize, price: u32, size: u32) -> bool
-    requires { ⌜ at + 22 ≤ 80 ⌝ }
+    requires { ⌜ at + 22 ≤ recordLength ⌝ }
     ensures { λ r. ⌜ r ≡ saleRules held (part (now (b .entry)) at 10) price size (part (now (b .entry)) (at + 18) 4) ⌝ }
 {
     held

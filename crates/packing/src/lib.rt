@@ -17,7 +17,7 @@ ghost use mathlib.Core.Path.{_≡_};
 ghost use lib.ListN.{replicate};
 ghost use lib.Seq.{sets};
 ghost use Rattle.records.specs.Held.{readBy, writeBy};
-ghost use Rattle.records.specs.Packed.{recordOf, recordBytes};
+ghost use Rattle.records.specs.Packed.{recordLength, recordOf, recordBytes};
 ghost use Rattle.packing.specs.Layouts.{layoutS, layoutT, layoutC, layoutJ, layoutOf};
 ghost use Rattle.packing.specs.Packing.{lengthOf, filledIn, bytesIn};
 
@@ -76,7 +76,7 @@ pub fn length_of(kind: Kind) -> usize
 // Each type's fields, put over eighty zeros. Fields that stand side by side in a message and in the eighty bytes are
 // copied as one run.
 fn unpack_s(b: &mut [u8], m: &[u8])
-    requires { ⌜ now b ≡ replicate 80 0 ⌝ }
+    requires { ⌜ now b ≡ replicate recordLength 0 ⌝ }
     ensures { λ _. ⌜ now (b .exit) ≡ recordBytes (readBy layoutS (now (m .entry))) ⌝ }
 {
     copy_byte(b, LETTER, m, M_LETTER);
@@ -86,7 +86,7 @@ fn unpack_s(b: &mut [u8], m: &[u8])
 
 // T and X: whichever of the two letters it is, the fields stand where those of a T (84) do.
 fn unpack_t(b: &mut [u8], m: &[u8])
-    requires { ⌜ now b ≡ replicate 80 0 ⌝ }
+    requires { ⌜ now b ≡ replicate recordLength 0 ⌝ }
     ensures { λ _. ⌜ now (b .exit) ≡ recordBytes (readBy (layoutT 84) (now (m .entry))) ⌝ }
 {
     copy_byte(b, LETTER, m, M_LETTER);
@@ -96,7 +96,7 @@ fn unpack_t(b: &mut [u8], m: &[u8])
 }
 
 fn unpack_c(b: &mut [u8], m: &[u8])
-    requires { ⌜ now b ≡ replicate 80 0 ⌝ }
+    requires { ⌜ now b ≡ replicate recordLength 0 ⌝ }
     ensures { λ _. ⌜ now (b .exit) ≡ recordBytes (readBy layoutC (now (m .entry))) ⌝ }
 {
     copy_byte(b, LETTER, m, M_LETTER);
@@ -106,7 +106,7 @@ fn unpack_c(b: &mut [u8], m: &[u8])
 }
 
 fn unpack_j(b: &mut [u8], m: &[u8])
-    requires { ⌜ now b ≡ replicate 80 0 ⌝ }
+    requires { ⌜ now b ≡ replicate recordLength 0 ⌝ }
     ensures { λ _. ⌜ now (b .exit) ≡ recordBytes (readBy layoutJ (now (m .entry))) ⌝ }
 {
     copy_byte(b, LETTER, m, M_LETTER);

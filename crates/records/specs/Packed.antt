@@ -36,8 +36,12 @@ slots =
     (saleSlots 38 newControl newPrice newSize newCondition
     (at high 60 4 (big any) ∷ at low 64 4 (big any) ∷ at close 68 4 (big any) ∷ at consolidated 72 8 (big any) ∷ []))
 
+-- how many bytes a record is
+abbrev pub recordLength : ℕ
+recordLength = 80
+
 unfoldable pub packed : Layout
-packed = record { size = 80; place = 0; entries = slots }
+packed = record { size = recordLength; place = 0; entries = slots }
 
 -- the record that eighty bytes are, and the bytes of a record
 unfoldable pub recordOf : List ℕ → Record

@@ -32,7 +32,7 @@ ghost use Rattle.records.specs.Packed as W;
 
 // Control, price, size and condition, from a place in a record on.
 fn sale_at(m: &[u8], at: usize) -> Sale
-    requires { ⌜ at ≤ 80 ⌝ }
+    requires { ⌜ at ≤ W.recordLength ⌝ }
     ensures { λ r. ⌜ r ≡ W.saleAt (now (m .entry)) at ⌝ }
 {
     let mut control = [0u8; 10];
@@ -91,7 +91,7 @@ pub fn record(b: &[u8; RECORD]) -> Record
 
 // The same fields, stored.
 fn put_sale(out: &mut [u8], at: usize, s: Sale)
-    requires { ⌜ at ≤ 80 ⌝ }
+    requires { ⌜ at ≤ W.recordLength ⌝ }
     ensures { λ _. ⌜ now (out .exit) ≡ sets (now (out .entry)) at (W.saleBytes s) ⌝ }
 {
     let control = s.control;
