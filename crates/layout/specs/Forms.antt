@@ -66,7 +66,7 @@ plain (chars p) xs = true
 
 -- ---- room
 
--- the value has room in so many bytes
+-- a value of the form's kind, with room in so many bytes; of a single byte nothing is asked, its room in a record is asked apart (`narrow`)
 abbrev pub fits : Form → ℕ → Value → Bool
 fits (byte p) n (number x) = true
 fits (byte p) n (text xs) = false
