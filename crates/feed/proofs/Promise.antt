@@ -100,12 +100,14 @@ module _ (κs : GoLfts) (a : GoArgs κs) where
   pub go-on-one : (r r′ : Reading) (x x′ : GoExit κs) → go-on-reads.Learnt κs a r x → go-on-reads.Learnt κs a r′ x′
       → (r ≡ r′) × (goLeft r x ≡ goLeft r′ x′)
   go-on-one r r′ x x′ h h′ =
-      let e : goLeft r x ≡ goLeft r′ x′ = h ∙ sym h′ in
-      (same (r .counters) (r .held) (r .at) (r .stop)
-      (ap (λ (y : Standing). y .state .counters) e)
-      (ap (λ (y : Standing). y .held) e)
-      (ap (λ (y : Standing). y .at) e)
-      (ap (λ (y : Standing). y .stop) e), e)
+      let e : goLeft r x ≡ goLeft r′ x′ = h ∙ sym h′ in (
+        same (r .counters) (r .held) (r .at) (r .stop)
+            (ap (λ (y : Standing). y .state .counters) e)
+            (ap (λ (y : Standing). y .held) e)
+            (ap (λ (y : Standing). y .at) e)
+            (ap (λ (y : Standing). y .stop) e),
+        e,
+      )
     where
       same : (c : Counters) (n k : ℕ) (w : Stop) → c ≡ r′ .counters → n ≡ r′ .held → k ≡ r′ .at → w ≡ r′ .stop
           → record { counters = c; held = n; at = k; stop = w } ≡ r′

@@ -14,6 +14,9 @@ use denote.Ref.{now}
 use Rattle.book.specs.State.{State, lent}
 use Rattle.page.specs.declared.Ending.{Ending}
 use Rattle.page.specs.Page.{lineOf, wallOf}
+use Rattle.page.proofs.ended as ended
+use Rattle.page.proofs.ended.Reads as ended-reads
+use Rattle.page.proofs.ended.Kinds as ended-kinds
 use Rattle.page.proofs.line as line
 use Rattle.page.proofs.line.Reads as line-reads
 use Rattle.page.proofs.line.Kinds as line-kinds
@@ -41,6 +44,10 @@ module _ (κs : Lfts (line.signature .lifetimes)) (a : ArgsD line.signature κs)
       → line-reads.Learnt κs a r s
       ≡ ((now (s .1 .1 .1 .1 .1 .0) ≡ sets (now (a .1 .1 .1 .1 .1 .0)) 0 lineText) × (r ≡ length lineText))
   line-says r s = refl
+
+pub ended-one : (κs : Lfts 0) (a : ArgsD ended.signature κs) (e e′ : Ending) (s s′ : AtExit (endedOf 0 ended-kinds.ps ended-kinds.r) κs)
+    → ended-reads.Learnt κs a e s → ended-reads.Learnt κs a e′ s′ → e ≡ e′
+ended-one κs a e e′ s s′ h h′ = h ∙ sym h′
 
 -- a call of `write`
 abbrev pub WriteLfts : Type 0

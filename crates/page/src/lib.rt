@@ -1,6 +1,7 @@
 // The printed wall as a whole: its lines one after the other, and the text that they are.
 use bounds::lesser;
 use counters::Counters;
+use tape::Stop;
 ghost use mathlib.Core.Path.{_≡_};
 ghost use Prim.Native.Nat.{min};
 ghost use lib.ListN.{length};
@@ -8,12 +9,23 @@ ghost use lib.Seq.{sets};
 ghost use Rattle.print.specs.Texts.{rowText};
 ghost use Rattle.book.specs.State.{lent};
 ghost use Rattle.rows.specs.Rows.{rowIn, usedRows};
-ghost use Rattle.page.specs.Page.{shownRow, endText, lineOf, wallOf};
+ghost use Rattle.page.specs.Page.{shownRow, endText, endingAt, lineOf, wallOf};
 
 // How a tape came to its end: after a whole entry, or at the offset of the kind byte of what cannot be played.
 pub enum Ending {
     Complete,
     StopsAt(u64),
+}
+
+// How a tape ended whose play stands at an offset for that reason.
+pub fn ended(stop: Stop, at: u64) -> Ending
+    ensures { λ e. ⌜ e ≡ endingAt stop at ⌝ }
+{
+    match stop {
+        Stop::Ended => Ending::Complete,
+        Stop::NoKind => Ending::StopsAt(at),
+        Stop::CutShort => Ending::StopsAt(at),
+    }
 }
 
 // How many rows there are to print.
