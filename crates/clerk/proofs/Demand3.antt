@@ -1,13 +1,13 @@
 -- One true day of real calls: a fresh book, any listings, then any deliveries of copies of the day's messages. What is left is the
 -- clerk's book after the messages 1 to n, n the largest count that arrives in order, and a row's reading tells what he shows.
 -- Assumes nothing.
-use Prim.Native.Nat.{ℕ, suc, _≤_}
-use mathlib.Core.Path.{_≡_, refl, sym, ap, subst, _∙_}
+use Prim.Native.Nat.{ℕ, suc, _+_, _≤_}
+use mathlib.Core.Path.{_≡_, refl, sym, ap, ap₂, subst, _∙_}
 use mathlib.Core.Logic.{_↔_}
 use mathlib.Core.Bool.{Bool, true, false, cond}
-use mathlib.Core.List.{List, [], _∷_, List·Memᴰ}
+use mathlib.Core.List.{List, [], _∷_, _++_, reverse, reverseAux, reverseAux-append, List·Memᴰ}
 use native.Mathlib.Omega.{arith}
-use borrow.Author.Tests.{eqb-true, eq-eqb, ne-eqb}
+use borrow.Author.Tests.{eqb-true, eqb-false, eq-eqb, ne-eqb}
 use lib.Dec.{eqb}
 use lib.ListN.{length}
 use Rattle.octets.specs.Run.{Bytes}
@@ -28,7 +28,7 @@ use Rattle.book.specs.declared.Said.{Said}
 use Rattle.book.specs.declared.Shown.{Shown}
 use Rattle.book.specs.State.{State, withCounters, Outcome, Arrival, wantedIn, linesIn}
 use Rattle.book.specs.Calls.{listed, delivered, shown}
-use Rattle.book.proofs.Demand1.{message-told, refused-keeps}
+use Rattle.book.proofs.Demand1.{message-told, answer-taken, refused-keeps}
 use Rattle.book.proofs.Promise.{ListLfts, ListArgs, ListExit, DeliverLfts, DeliverArgs, DeliverExit, RowLfts, RowArgs, RowExit}
 use Rattle.book.proofs.Promise.{listFrom, listGiven, listLeft, deliverFrom, deliverGiven, deliverLeft, readFrom, readGiven}
 use Rattle.book.proofs.fresh.Reads as fresh-reads
@@ -36,15 +36,16 @@ use Rattle.book.proofs.list.Reads as list-reads
 use Rattle.book.proofs.deliver.Reads as deliver-reads
 use Rattle.book.proofs.row.Reads as row-reads
 use Rattle.clerk.specs.Steps.{Book, bookOf, content, next, listing}
-use Rattle.clerk.specs.Clerk.{isIn, symbolsIn, sheetFrom, clerkSheet, tradesOf, answerTo, takenOf, shownBy, bookBy, clerkBook}
+use Rattle.clerk.specs.Clerk.{isIn, symbolsIn, sheetFrom, clerkSheet, Taken, tradesOf, answerTo, takenOf, shownBy, bookBy, clerkBook}
 use Rattle.clerk.specs.Arrivals.{Largest, numbers, Copies, upto, deliverEach}
-use Rattle.clerk.specs.Claims.{NoRepeat, keysOf, namedIn, MadeLive, Used, usedAfter}
+use Rattle.clerk.specs.Claims.{NoRepeat, keysOf, namedIn, namesDone, MadeLive, Used, usedAfter}
 use Rattle.clerk.proofs.Steps.{answer-is}
 use Rattle.clerk.proofs.States.{Stands, fresh-stands, plus, upto-length, late, listed-stands, delivered-stands, wants, clerks}
 use Rattle.clerk.proofs.States.{clerks-wanted, clerks-at, clerks-other, the-lines, shown-listed, shown-missing}
-use Rattle.clerk.proofs.InOrder.{got, got-at, got-other, largest-got, largest-one, used-exactly, largest-below}
+use Rattle.clerk.proofs.InOrder.{got, got-at, got-other, got-none, largest-got, largest-one, used-exactly, largest-below}
+use Rattle.clerk.proofs.Lines.{no-repeat-turned}
 use Rattle.clerk.proofs.Sim.{one-trade-per-key, content-is, listedBook, listed-is, book-is-clerks, sheet-once}
-use Rattle.clerk.proofs.Once.{at-most-once, live-exactly}
+use Rattle.clerk.proofs.Once.{at-most-once, named-more, live-exactly}
 
 -- ---- runs of calls, each one as its contract tells; each gets the state that the call before left
 
@@ -76,6 +77,11 @@ unfoldable pub usedIn : {s : State} {l : List Arrival} {end : State} → Deliver
 usedIn no-message = []
 usedIn (a-message κs a r x bl bm q t) =
     cond (eqb (r .counters .wanted) (wantedIn (deliverFrom κs a))) (usedIn t) (answered (deliverGiven κs a) (r .answer) ∷ usedIn t)
+
+-- the keys that the calls of a run named, in the order of the calls: of those that brought an X or a C and were answered 0
+unfoldable pub namedBy : {s : State} {l : List Arrival} {end : State} → Delivers s l end → List (List ℕ)
+namedBy no-message = []
+namedBy (a-message κs a r x bl bm q t) = namesDone (deliverGiven κs a .message) (numberOf (r .answer)) ++ namedBy t
 
 -- a whole day in the rooms of a state, of any bytes: a fresh book, listings, deliveries
 pub record Day (rooms : State) (ls : List Listing) (l : List Arrival) (end : State) : Type 1 where
@@ -144,9 +150,58 @@ module _ (R L : ℕ) where
     abbrev clerks-answer : ℕ → ℕ
     clerks-answer j = answerTo sheet (lineLimit L) (takenOf sheet (lineLimit L) (upto day j)) (day (suc j))
 
+    abbrev taken : ℕ → List Taken
+    taken j = takenOf sheet (lineLimit L) (upto day j)
+
+    -- what the message after those names, if it is taken
+    taken-named : (j : ℕ) → namedIn (taken (suc j)) ≡ reverseAux (namesDone (day (suc j)) (clerks-answer j)) (namedIn (taken j))
+    unfolding upto
+    taken-named j = named-more sheet (lineLimit L) (upto day j) (day (suc j))
+
     clerks-says : (j : ℕ) → content (lineLimit L) (book j) (day (suc j)) ≡ clerks-answer j
     unfolding clerkBook
     clerks-says j = content-is sheet (lineLimit L) (takenOf sheet (lineLimit L) (upto day j)) (length (upto day j)) (day (suc j))
+
+    -- one message on a book that has used the first j
+    module _ (j : ℕ) (s : State) (a : Arrival) (bl : Bytes (s .lines)) (bm : Bytes (a .message)) (h : Stands R L (book j) s)
+        (c : (a .number ≤ N) × (1 ≤ a .number → a .message ≡ day (a .number))) where
+      -- the next of the day is used, and answered as the clerk answers it
+      record Next : Type 0 where
+        pub copy : a .message ≡ day (suc j)
+        pub answer : delivered s a .answer ≡ clerks-answer j
+        pub leaves : Stands R L (book (suc j)) (delivered s a .state)
+
+      is-next : a .number ≡ suc j → Next
+      is-next i =
+          let low : 1 ≤ a .number = omega arith in
+          let copy : a .message ≡ day (suc j) = c .1 low ∙ ap day i in
+          record {
+            copy = copy;
+            answer =
+                says s a (book j) h low (omega (arith, c .0)) (i ∙ sym (clerks-wanted R L day N fits sheet j))
+                ∙ ap (content (lineLimit L) (book j)) copy ∙ clerks-says j;
+            leaves =
+                subst (λ (b : Book). Stands R L b (delivered s a .state)) (clerks-at R L day N fits sheet once j a i (c .0) (c .1))
+                (delivered-stands R L s a bl bm (book j) h);
+          }
+
+      -- any other is refused, and leaves the book
+      record NotNext : Type 0 where
+        pub refused : delivered s a .answer ≡ 0 → ⊥
+        pub leaves : Stands R L (book j) (delivered s a .state)
+
+      not-next : eqb (a .number) (suc j) ≡ false → NotNext
+      unfolding delivered
+      not-next w =
+          record {
+            refused =
+                λ z.
+                eqb-false (a .number) (suc j) w
+                (answer-taken s a z .wanted ∙ wants R L s (book j) h ∙ clerks-wanted R L day N fits sheet j);
+            leaves =
+                subst (λ (b : Book). Stands R L b (delivered s a .state)) (clerks-other R L day N fits sheet j a w)
+                (delivered-stands R L s a bl bm (book j) h);
+          }
 
     used-from : {s end : State} {l : List Arrival} (j : ℕ) (h : Delivers s l end)
         → Stands R L (book j) s → Copies day N l → usedIn h ≡ usedAfter day sheet (lineLimit L) j (got (suc j) (numbers l))
@@ -173,11 +228,8 @@ module _ (R L : ℕ) where
         all : List Used
         all = cond (eqb (r .counters .wanted) (wantedIn s)) (usedIn t) (answered a (r .answer) ∷ usedIn t)
 
-        then : Stands R L (next (lineLimit L) (book j) a) left
-        then = stands-left told (delivered-stands R L s a bl bm (book j) h)
-
-        wanted-left : r .counters .wanted ≡ next (lineLimit L) (book j) a .wanted
-        wanted-left = wants R L left _ then
+        wanted-then : (i : ℕ) → Stands R L (book i) left → r .counters .wanted ≡ suc i
+        wanted-then i g = wants R L left (book i) g ∙ clerks-wanted R L day N fits sheet i
 
         go : (b : Bool) → eqb k (suc j) ≡ b
             → (Stands R L (book (suc j)) left → usedIn t ≡ usedAfter day sheet (lineLimit L) (suc j) (got (suc (suc j)) (numbers l)))
@@ -185,29 +237,70 @@ module _ (R L : ℕ) where
             → all ≡ usedAfter day sheet (lineLimit L) j (got (suc j) (k ∷ numbers l))
         go true w more same =
             let i : k ≡ suc j = eqb-true k (suc j) w in
-            let here : k ≡ book j .wanted = i ∙ sym (clerks-wanted R L day N fits sheet j) in
-            let low : 1 ≤ k = omega arith in
-            let high : k ≤ lastNumber = omega (arith, e .0 .0) in
-            let copy : a .message ≡ day (suc j) = e .0 .1 low ∙ ap day i in
-            let step = clerks-at R L day N fits sheet once j a i (e .0 .0) (e .0 .1) in
+            let n = is-next j s a bl bm h (e .0) i in
+            let g = stands-left told (n .leaves) in
             let before = wants R L s (book j) h ∙ clerks-wanted R L day N fits sheet j in
-            let later = wanted-left ∙ ap (λ (b : Book). b .wanted) step ∙ clerks-wanted R L day N fits sheet (suc j) in
+            let later = wanted-then (suc j) g in
             let moved : eqb (r .counters .wanted) (wantedIn s) ≡ false
-            = ne-eqb (r .counters .wanted) (wantedIn s)
-            (λ y. omega (arith, y, before, later)) in
-            let number : delivered s a .answer ≡ clerks-answer j
-            = says s a (book j) h low high here ∙ ap (content (lineLimit L) (book j)) copy ∙ clerks-says j in
+            = ne-eqb (r .counters .wanted) (wantedIn s) (λ y. omega (arith, y, before, later)) in
             let said : r .answer ≡ answerOf (clerks-answer j)
-            = answer-said s a (r .answer) (clerks-answer j) (ap (λ (o : Outcome). o .answer) q) number in
-            let rest = more (subst (λ (b : Book). Stands R L b left) step then) in
-            rw (moved, got-at (suc j) k (numbers l) w, i, copy, said, rest)
+            = answer-said s a (r .answer) (clerks-answer j) (ap (λ (o : Outcome). o .answer) q) (n .answer) in
+            rw (moved, got-at (suc j) k (numbers l) w, i, n .copy, said, more g)
         go false w more same =
-            let other = clerks-other R L day N fits sheet j a w in
+            let g = stands-left told (not-next j s a bl bm h (e .0) w .leaves) in
             let still : eqb (r .counters .wanted) (wantedIn s) ≡ true
             = eq-eqb (r .counters .wanted) (wantedIn s)
-            (wanted-left ∙ ap (λ (b : Book). b .wanted) other ∙ sym (wants R L s (book j) h)) in
-            let rest = same (subst (λ (b : Book). Stands R L b left) other then) in
-            rw (still, got-other (suc j) k (numbers l) w) rest
+            (wanted-then j g ∙ sym (wants R L s (book j) h ∙ clerks-wanted R L day N fits sheet j)) in
+            rw (still, got-other (suc j) k (numbers l) w) (same g)
+
+    -- what the calls of the run named is what the clerk's taken messages name, who has the newest first
+    named-from : {s end : State} {l : List Arrival} (j : ℕ) (h : Delivers s l end) → Stands R L (book j) s → Copies day N l
+        → namedIn (taken (got (suc j) (numbers l) + j)) ≡ reverseAux (namedBy h) (namedIn (taken j))
+    unfolding namedBy
+    named-from j no-message h e = ap (λ (k : ℕ). namedIn (taken k)) (got-none j)
+    named-from j (a-message κs c r x {l} {end} bl bm q t) h e =
+        go (eqb k (suc j)) refl (λ y. named-from (suc j) t y (e .1)) (λ y. named-from j t y (e .1))
+      where
+        s : State
+        s = deliverFrom κs c
+
+        a : Arrival
+        a = deliverGiven κs c
+
+        k : ℕ
+        k = a .number
+
+        left : State
+        left = deliverLeft κs c r x .state
+
+        told : delivered s a .state ≡ left
+        told = left-state (deliverLeft κs c r x) (delivered s a) q
+
+        said : numberOf (r .answer) ≡ delivered s a .answer
+        said = ap (λ (o : Outcome). o .answer) q
+
+        ks : List ℕ
+        ks = numbers l
+
+        go : (b : Bool) → eqb k (suc j) ≡ b
+            → (Stands R L (book (suc j)) left
+            → namedIn (taken (got (suc (suc j)) ks + suc j)) ≡ reverseAux (namedBy t) (namedIn (taken (suc j))))
+            → (Stands R L (book j) left → namedIn (taken (got (suc j) ks + j)) ≡ reverseAux (namedBy t) (namedIn (taken j)))
+            → namedIn (taken (got (suc j) (k ∷ ks) + j))
+            ≡ reverseAux (namesDone (a .message) (numberOf (r .answer)) ++ namedBy t) (namedIn (taken j))
+        go true w more same =
+            let n = is-next j s a bl bm h (e .0) (eqb-true k (suc j) w) in
+            let g : got (suc j) (k ∷ ks) + j ≡ got (suc (suc j)) ks + suc j = omega (arith, got-at (suc j) k ks w) in
+            ap (λ (i : ℕ). namedIn (taken i)) g
+            ∙ more (stands-left told (n .leaves))
+            ∙ ap (reverseAux (namedBy t)) (taken-named j)
+            ∙ ap₂ (λ (m : List ℕ) (i : ℕ). reverseAux (namedBy t) (reverseAux (namesDone m i) (namedIn (taken j)))) (sym (n .copy))
+            (sym (said ∙ n .answer))
+            ∙ sym (reverseAux-append (namesDone (a .message) (numberOf (r .answer))) (namedBy t) (namedIn (taken j)))
+        go false w more same =
+            let n = not-next j s a bl bm h (e .0) w in
+            let z : eqb (numberOf (r .answer)) 0 ≡ false = ne-eqb (numberOf (r .answer)) 0 (λ y. n .refused (sym said ∙ y)) in
+            rw (z, got-other (suc j) k ks w) (same (stands-left told (n .leaves)))
 
 -- ---- the day
 
@@ -295,9 +388,19 @@ module _ (day : ℕ → List ℕ) (N n : ℕ) (fits : N ≤ lastNumber) (l : Lis
   pub lines-once : NoRepeat (keysOf (linesIn end))
   lines-once = rw lines-are (one-trade-per-key sheet room (upto day n))
 
-  -- and no key was named twice by a taken X or C
-  pub named-once : NoRepeat (namedIn (takenOf sheet room (upto day n)))
-  named-once = at-most-once sheet room (upto day n)
+  -- the keys that its calls named are those that the clerk's taken messages name, who has the newest first
+  pub named-calls : namedIn (takenOf sheet room (upto day n)) ≡ reverse (namedBy (h .delivers))
+  unfolding upto takenOf namedIn
+  named-calls =
+      let k = subst (λ (b : Book). Stands (length rows) (length lines) b (h .ready)) (listed-is sheet room) (sheet-stands h) in
+      let g : n ≡ got 1 (numbers l) + 0
+      = omega (arith, largest-one (numbers l) (got 1 (numbers l)) n (largest-got (numbers l)) largest) in
+      ap (λ (i : ℕ). namedIn (takenOf sheet room (upto day i))) g
+      ∙ named-from (length rows) (length lines) day N fits sheet once 0 (h .delivers) k copies
+
+  -- of its deliveries that were X or C and were answered 0, no two named one key
+  pub named-once : NoRepeat (namedBy (h .delivers))
+  named-once = no-repeat-turned (namedBy (h .delivers)) (subst NoRepeat named-calls (at-most-once sheet room (upto day n)))
 
 -- two runs of one day with one sheet, one size of room for lines and one n end in the clerk's book, both, and so in equal books,
 -- whatever the rooms held before
