@@ -1,52 +1,51 @@
 -- One true day of real calls: a fresh book, any listings, then any deliveries of copies of the day's messages. What is left is the
 -- clerk's book after the messages 1 to n, n the largest count that arrives in order, and a row's reading tells what he shows.
 -- Assumes nothing.
-use Prim.Native.Nat.{ℕ, zero, suc, _+_, _≤_, min}
-use mathlib.Core.Path.{_≡_, refl, sym, ap, subst, _∙_}
+use Prim.Native.Nat.{ℕ, suc, _+_, _≤_}
+use mathlib.Core.Path.{_≡_, refl, sym, ap, ap₂, subst, _∙_}
 use mathlib.Core.Logic.{_↔_}
 use mathlib.Core.Bool.{Bool, true, false, cond}
-use mathlib.Core.List.{List, [], _∷_, _++_, map, map-append, List·Memᴰ}
+use mathlib.Core.List.{List, [], _∷_, _++_, reverse, reverseAux, reverseAux-append, List·Memᴰ}
 use native.Mathlib.Omega.{arith}
 use borrow.Author.Tests.{eqb-true, eqb-false, eq-eqb, ne-eqb}
 use lib.Dec.{eqb}
-use lib.ListN.{length, length-append}
-use Rattle.octets.specs.Run.{Bytes, tab}
+use lib.ListN.{length}
+use Rattle.octets.specs.Run.{Bytes}
 use Rattle.answers.specs.Answers.{numberOf, answerOf}
-use Rattle.answers.specs.Cases.{Case, given, inBook}
+use Rattle.answers.specs.Cases.{given}
 use Rattle.answers.specs.declared.Answer.{Answer}
 use Rattle.answers.proofs.Promise.{one-number-each}
 use Rattle.lines.specs.declared.Line.{Line}
-use Rattle.lines.specs.Lines.{lineLimit, usedLines}
+use Rattle.lines.specs.Lines.{lineLimit}
 use Rattle.rows.specs.declared.Listing.{Listing}
-use Rattle.rows.specs.Rows.{rowLimit, usedRows, sheetIn}
-use Rattle.rows.specs.Changed.{listedRow, ListingFits}
+use Rattle.rows.specs.Rows.{rowLimit}
+use Rattle.rows.specs.Changed.{ListingFits}
 use Rattle.counters.specs.declared.Counters.{Counters}
-use Rattle.counters.specs.Counting.{lastNumber, freshCounters}
+use Rattle.counters.specs.Counting.{lastNumber}
 use Rattle.table.proofs.Tables.{Wanted}
 use Rattle.show.specs.Showing.{nothingShown}
 use Rattle.book.specs.declared.Said.{Said}
 use Rattle.book.specs.declared.Shown.{Shown}
-use Rattle.book.specs.State.{State, withCounters, Outcome, Arrival, wantedIn, rowsIn, linesIn, soundIn}
-use Rattle.book.specs.Calls.{listTable, listAnswer, listed, delivered, shown}
-use Rattle.book.specs.State as State-of
-use Rattle.book.proofs.Demand1.{message-told, refused-keeps}
-use Rattle.book.proofs.Touches.{touches-only}
+use Rattle.book.specs.State.{State, withCounters, Outcome, Arrival, wantedIn, linesIn}
+use Rattle.book.specs.Calls.{listed, delivered, shown}
+use Rattle.book.proofs.Demand1.{message-told, answer-taken, refused-keeps}
 use Rattle.book.proofs.Promise.{ListLfts, ListArgs, ListExit, DeliverLfts, DeliverArgs, DeliverExit, RowLfts, RowArgs, RowExit}
 use Rattle.book.proofs.Promise.{listFrom, listGiven, listLeft, deliverFrom, deliverGiven, deliverLeft, readFrom, readGiven}
 use Rattle.book.proofs.fresh.Reads as fresh-reads
 use Rattle.book.proofs.list.Reads as list-reads
 use Rattle.book.proofs.deliver.Reads as deliver-reads
 use Rattle.book.proofs.row.Reads as row-reads
-use Rattle.clerk.specs.Steps.{Book, bookOf, content, wantedDone, next, listing}
-use Rattle.clerk.specs.Clerk.{isIn, symbolsIn, sheetFrom, clerkSheet, tradesOf, answerTo, takenOf, rowOf, shownBy, bookBy, clerkBook}
+use Rattle.clerk.specs.Steps.{Book, bookOf, content, next, listing}
+use Rattle.clerk.specs.Clerk.{isIn, symbolsIn, sheetFrom, clerkSheet, Taken, tradesOf, answerTo, takenOf, shownBy, bookBy, clerkBook}
 use Rattle.clerk.specs.Arrivals.{Largest, numbers, Copies, upto, deliverEach}
-use Rattle.clerk.specs.Claims.{NoRepeat, keysOf, namedIn, MadeLive, Used, usedAfter}
-use Rattle.clerk.proofs.Steps.{answer-is, deliver-step, list-step, deliver-sound, list-sound, fresh-sound}
-use Rattle.clerk.proofs.Passing.{listable}
-use Rattle.clerk.proofs.InOrder.{got, got-at, got-other, largest-got, largest-one, next-at, next-other, used-exactly, largest-below}
-use Rattle.clerk.proofs.Sim.{one-trade-per-key, content-is, clerk-after, listedBook, listed-is, book-is-clerks, sheet-once}
-use Rattle.clerk.proofs.Once.{at-most-once, live-exactly}
-use Rattle.clerk.proofs.Wall.{row-shown, row-missing}
+use Rattle.clerk.specs.Claims.{NoRepeat, keysOf, namedIn, namesDone, MadeLive, Used, usedAfter}
+use Rattle.clerk.proofs.Steps.{answer-is}
+use Rattle.clerk.proofs.States.{Stands, fresh-stands, plus, upto-length, late, listed-stands, delivered-stands, wants, clerks}
+use Rattle.clerk.proofs.States.{clerks-wanted, clerks-at, clerks-other, the-lines, shown-listed, shown-missing}
+use Rattle.clerk.proofs.InOrder.{got, got-at, got-other, got-none, largest-got, largest-one, used-exactly, largest-below}
+use Rattle.clerk.proofs.Lines.{no-repeat-turned}
+use Rattle.clerk.proofs.Sim.{one-trade-per-key, content-is, listedBook, listed-is, book-is-clerks, sheet-once}
+use Rattle.clerk.proofs.Once.{at-most-once, named-more, live-exactly}
 
 -- ---- runs of calls, each one as its contract tells; each gets the state that the call before left
 
@@ -79,6 +78,11 @@ usedIn no-message = []
 usedIn (a-message κs a r x bl bm q t) =
     cond (eqb (r .counters .wanted) (wantedIn (deliverFrom κs a))) (usedIn t) (answered (deliverGiven κs a) (r .answer) ∷ usedIn t)
 
+-- the keys that the calls of a run named, in the order of the calls: of those that brought an X or a C and were answered 0
+unfoldable pub namedBy : {s : State} {l : List Arrival} {end : State} → Delivers s l end → List (List ℕ)
+namedBy no-message = []
+namedBy (a-message κs a r x bl bm q t) = namesDone (deliverGiven κs a .message) (numberOf (r .answer)) ++ namedBy t
+
 -- a whole day in the rooms of a state, of any bytes: a fresh book, listings, deliveries
 pub record Day (rooms : State) (ls : List Listing) (l : List Arrival) (end : State) : Type 1 where
   pub start : Counters
@@ -86,63 +90,6 @@ pub record Day (rooms : State) (ls : List Listing) (l : List Arrival) (end : Sta
   pub ready : State
   pub lists : Lists (withCounters start rooms) ls ready
   pub delivers : Delivers ready l end
-
--- ---- the sheet
-
--- this state comes to the book b and is sound, and the rooms are R and L bytes long
-pub record Stands (R L : ℕ) (b : Book) (s : State) : Type 0 where
-  pub reads : bookOf s ≡ b
-  pub safe : soundIn s ≡ true
-  pub rowRoom : length (s .rows) ≡ R
-  pub lineRoom : length (s .lines) ≡ L
-
-fresh-stands : (s : State) → Stands (length (s .rows)) (length (s .lines)) (listedBook []) (withCounters freshCounters s)
-unfolding bookOf usedRows usedLines tab
-fresh-stands s =
-    record {
-      reads = rw (none-used (rowLimit (length (s .rows))), none-used (lineLimit (length (s .lines))));
-      safe = fresh-sound (length (s .rows)) (length (s .lines));
-      rowRoom = refl;
-      lineRoom = refl;
-    }
-  where
-    none-used : (n : ℕ) → min 0 n ≡ 0
-    none-used n = omega arith
-
-sheet-listed : (sheet : List Listing) → sheetIn (map listedRow sheet) ≡ sheet
-sheet-listed [] = refl
-sheet-listed (l ∷ sheet) = ap {B = List Listing} (λ x. l ∷ x) (sheet-listed sheet)
-
--- the sheet after one more listing
-abbrev plus : ℕ → List Listing → Listing → List Listing
-plus limit sheet l = cond (eqb (given (listTable 1 sheet limit l) .number) 0) (sheet ++ (l ∷ [])) sheet
-
-listing-is : (limit : ℕ) (sheet : List Listing) (l : Listing) → listing limit (listedBook sheet) l ≡ listedBook (plus limit sheet l)
-unfolding listing
-listing-is limit sheet l =
-    ap (λ (x : List Listing). cond (eqb (given (listTable 1 x limit l) .number) 0) more (listedBook sheet)) (sheet-listed sheet)
-    ∙ go (eqb (given (listTable 1 sheet limit l) .number) 0)
-  where
-    more : Book
-    more =
-        record {
-          wanted = 1;
-          phase = 0;
-          rows = map listedRow sheet ++ (listedRow l ∷ []);
-          lines = [];
-          listed = length sheet + 1;
-          used = 0;
-          taken = 0;
-        }
-
-    go : (t : Bool) → cond t more (listedBook sheet) ≡ listedBook (cond t (sheet ++ (l ∷ [])) sheet)
-    go true = rw (map-append listedRow sheet (l ∷ []), length-append sheet (l ∷ []))
-    go false = refl
-
-upto-length : (day : ℕ → List ℕ) (n : ℕ) → length (upto day n) ≡ n
-unfolding upto
-upto-length day zero = refl
-upto-length day (suc n) = ap suc (upto-length day n)
 
 -- what a call leaves is the state that its outcome has
 left-state : (o p : Outcome) → o ≡ p → p .state ≡ o .state
@@ -164,63 +111,23 @@ module _ (R L : ℕ) where
   unfolding sheetFrom
   lists-are sheet no-listing h = h
   lists-are sheet (a-listing κs a r x {ls} {end} f q t) h =
-      lists-are (plus (rowLimit R) sheet l) t (stands-left (left-state (listLeft κs a r x) (listed s l) q) next-stands)
-    where
-      s : State
-      s = listFrom κs a
-
-      l : Listing
-      l = listGiven κs a
-
-      step : bookOf (listed s l .state) ≡ listedBook (plus (rowLimit R) sheet l)
-      step =
-          list-step s (h .safe) l f
-          ∙ ap (λ (b : Book). listing (rowLimit (length (s .rows))) b l) (h .reads)
-          ∙ ap (λ (n : ℕ). listing (rowLimit n) (listedBook sheet) l) (h .rowRoom)
-          ∙ listing-is (rowLimit R) sheet l
-
-      next-stands : Stands R L (listedBook (plus (rowLimit R) sheet l)) (listed s l .state)
-      next-stands =
-          record {
-            reads = step;
-            safe = list-sound s (h .safe) l;
-            rowRoom = touches-only s .listedLength l ∙ h .rowRoom;
-            lineRoom = ap length (touches-only s .listedLines l) ∙ h .lineRoom;
-          }
+      let s = listFrom κs a in
+      let l = listGiven κs a in
+      lists-are (plus (rowLimit R) sheet l) t
+      (stands-left (left-state (listLeft κs a r x) (listed s l) q) (listed-stands R L s l f sheet h))
 
   -- ---- the arrivals
 
-  -- what one delivery leaves
-  module _ (s : State) (a : Arrival) (bl : Bytes (s .lines)) (bm : Bytes (a .message)) (b : Book) (h : Stands R L b s) where
-    delivered-stands : Stands R L (next (lineLimit L) b a) (delivered s a .state)
-    delivered-stands =
-        record {
-          reads =
-              deliver-step s (h .safe) a bl bm
-              ∙ ap (λ (x : Book). next (lineLimit (length (s .lines))) x a) (h .reads)
-              ∙ ap (λ (x : ℕ). next (lineLimit x) b a) (h .lineRoom);
-          safe = deliver-sound s (h .safe) a;
-          rowRoom = touches-only s .rowsLength a ∙ h .rowRoom;
-          lineRoom = touches-only s .linesLength a ∙ h .lineRoom;
-        }
-
-    wants : wantedIn s ≡ b .wanted
-    unfolding bookOf
-    wants = ap (λ (x : Book). x .wanted) (h .reads)
-
-    wants-then : wantedIn (delivered s a .state) ≡ next (lineLimit L) b a .wanted
-    unfolding bookOf
-    wants-then = ap (λ (x : Book). x .wanted) (delivered-stands .reads)
-
-    -- what is said back to the wanted message
-    says : 1 ≤ a .number → a .number ≤ lastNumber → a .number ≡ b .wanted → delivered s a .answer ≡ content (lineLimit L) b (a .message)
-    unfolding delivered
-    says least greatest e =
-        let w : Wanted true (wantedIn s) (a .number)
-        = record { sound = refl; wanted = e ∙ sym wants; least = least; greatest = greatest } in
-        answer-is s a (h .safe) w
-        ∙ ap (λ (x : Book). content (lineLimit (length (s .lines))) x (a .message)) (h .reads)
-        ∙ ap (λ (x : ℕ). content (lineLimit x) b (a .message)) (h .lineRoom)
+  -- what is said back to the wanted message
+  says : (s : State) (a : Arrival) (b : Book) (h : Stands R L b s) → 1 ≤ a .number → a .number ≤ lastNumber → a .number ≡ b .wanted
+      → delivered s a .answer ≡ content (lineLimit L) b (a .message)
+  unfolding delivered
+  says s a b h least greatest e =
+      let w : Wanted true (wantedIn s) (a .number)
+      = record { sound = refl; wanted = e ∙ sym (wants R L s b h); least = least; greatest = greatest } in
+      answer-is s a (h .safe) w
+      ∙ ap (λ (x : Book). content (lineLimit (length (s .lines))) x (a .message)) (h .reads)
+      ∙ ap (λ (x : ℕ). content (lineLimit x) b (a .message)) (h .lineRoom)
 
   pub delivers-are : {s end : State} {l : List Arrival} (b : Book) → Delivers s l end → Stands R L b s
       → Stands R L (deliverEach (lineLimit L) b l) end
@@ -230,33 +137,74 @@ module _ (R L : ℕ) where
       let s = deliverFrom κs a in
       let given = deliverGiven κs a in
       delivers-are (next (lineLimit L) b given) t
-      (stands-left (left-state (deliverLeft κs a r x) (delivered s given) q) (delivered-stands s given bl bm b h))
+      (stands-left (left-state (deliverLeft κs a r x) (delivered s given) q) (delivered-stands R L s given bl bm b h))
 
   -- ---- which calls use up a number
 
   module _ (day : ℕ → List ℕ) (N : ℕ) (fits : N ≤ lastNumber) (sheet : List Listing) (once : NoRepeat (symbolsIn sheet)) where
     -- the clerk's book after the first j
-    abbrev clerks : ℕ → Book
-    clerks j = clerkBook sheet (lineLimit L) (upto day j)
+    abbrev book : ℕ → Book
+    book j = clerks R L day N fits sheet j
 
     -- what the clerk answers to the message after those
     abbrev clerks-answer : ℕ → ℕ
     clerks-answer j = answerTo sheet (lineLimit L) (takenOf sheet (lineLimit L) (upto day j)) (day (suc j))
 
-    clerks-wanted : (j : ℕ) → clerks j .wanted ≡ suc j
-    unfolding clerkBook bookBy
-    clerks-wanted j = ap suc (upto-length day j)
+    abbrev taken : ℕ → List Taken
+    taken j = takenOf sheet (lineLimit L) (upto day j)
 
-    clerks-says : (j : ℕ) → content (lineLimit L) (clerks j) (day (suc j)) ≡ clerks-answer j
+    -- what the message after those names, if it is taken
+    taken-named : (j : ℕ) → namedIn (taken (suc j)) ≡ reverseAux (namesDone (day (suc j)) (clerks-answer j)) (namedIn (taken j))
+    unfolding upto
+    taken-named j = named-more sheet (lineLimit L) (upto day j) (day (suc j))
+
+    clerks-says : (j : ℕ) → content (lineLimit L) (book j) (day (suc j)) ≡ clerks-answer j
     unfolding clerkBook
     clerks-says j = content-is sheet (lineLimit L) (takenOf sheet (lineLimit L) (upto day j)) (length (upto day j)) (day (suc j))
 
-    clerks-next : (j : ℕ) → wantedDone (lineLimit L) (clerks j) (day (suc j)) ≡ clerks (suc j)
-    unfolding upto
-    clerks-next j = clerk-after sheet (lineLimit L) once (upto day j) (day (suc j))
+    -- one message on a book that has used the first j
+    module _ (j : ℕ) (s : State) (a : Arrival) (bl : Bytes (s .lines)) (bm : Bytes (a .message)) (h : Stands R L (book j) s)
+        (c : (a .number ≤ N) × (1 ≤ a .number → a .message ≡ day (a .number))) where
+      -- the next of the day is used, and answered as the clerk answers it
+      record Next : Type 0 where
+        pub copy : a .message ≡ day (suc j)
+        pub answer : delivered s a .answer ≡ clerks-answer j
+        pub leaves : Stands R L (book (suc j)) (delivered s a .state)
+
+      is-next : a .number ≡ suc j → Next
+      is-next i =
+          let low : 1 ≤ a .number = omega arith in
+          let copy : a .message ≡ day (suc j) = c .1 low ∙ ap day i in
+          record {
+            copy = copy;
+            answer =
+                says s a (book j) h low (omega (arith, c .0)) (i ∙ sym (clerks-wanted R L day N fits sheet j))
+                ∙ ap (content (lineLimit L) (book j)) copy ∙ clerks-says j;
+            leaves =
+                subst (λ (b : Book). Stands R L b (delivered s a .state)) (clerks-at R L day N fits sheet once j a i (c .0) (c .1))
+                (delivered-stands R L s a bl bm (book j) h);
+          }
+
+      -- any other is refused, and leaves the book
+      record NotNext : Type 0 where
+        pub refused : delivered s a .answer ≡ 0 → ⊥
+        pub leaves : Stands R L (book j) (delivered s a .state)
+
+      not-next : eqb (a .number) (suc j) ≡ false → NotNext
+      unfolding delivered
+      not-next w =
+          record {
+            refused =
+                λ z.
+                eqb-false (a .number) (suc j) w
+                (answer-taken s a z .wanted ∙ wants R L s (book j) h ∙ clerks-wanted R L day N fits sheet j);
+            leaves =
+                subst (λ (b : Book). Stands R L b (delivered s a .state)) (clerks-other R L day N fits sheet j a w)
+                (delivered-stands R L s a bl bm (book j) h);
+          }
 
     used-from : {s end : State} {l : List Arrival} (j : ℕ) (h : Delivers s l end)
-        → Stands R L (clerks j) s → Copies day N l → usedIn h ≡ usedAfter day sheet (lineLimit L) j (got (suc j) (numbers l))
+        → Stands R L (book j) s → Copies day N l → usedIn h ≡ usedAfter day sheet (lineLimit L) j (got (suc j) (numbers l))
     unfolding got usedAfter usedIn
     used-from j no-message h e = refl
     used-from j (a-message κs c r x {l} {end} bl bm q t) h e =
@@ -280,42 +228,79 @@ module _ (R L : ℕ) where
         all : List Used
         all = cond (eqb (r .counters .wanted) (wantedIn s)) (usedIn t) (answered a (r .answer) ∷ usedIn t)
 
-        then : Stands R L (next (lineLimit L) (clerks j) a) left
-        then = stands-left told (delivered-stands s a bl bm (clerks j) h)
-
-        wanted-left : r .counters .wanted ≡ next (lineLimit L) (clerks j) a .wanted
-        wanted-left = sym (ap wantedIn told) ∙ wants-then s a bl bm (clerks j) h
+        wanted-then : (i : ℕ) → Stands R L (book i) left → r .counters .wanted ≡ suc i
+        wanted-then i g = wants R L left (book i) g ∙ clerks-wanted R L day N fits sheet i
 
         go : (b : Bool) → eqb k (suc j) ≡ b
-            → (Stands R L (clerks (suc j)) left → usedIn t ≡ usedAfter day sheet (lineLimit L) (suc j) (got (suc (suc j)) (numbers l)))
-            → (Stands R L (clerks j) left → usedIn t ≡ usedAfter day sheet (lineLimit L) j (got (suc j) (numbers l)))
+            → (Stands R L (book (suc j)) left → usedIn t ≡ usedAfter day sheet (lineLimit L) (suc j) (got (suc (suc j)) (numbers l)))
+            → (Stands R L (book j) left → usedIn t ≡ usedAfter day sheet (lineLimit L) j (got (suc j) (numbers l)))
             → all ≡ usedAfter day sheet (lineLimit L) j (got (suc j) (k ∷ numbers l))
         go true w more same =
             let i : k ≡ suc j = eqb-true k (suc j) w in
-            let here : k ≡ clerks j .wanted = i ∙ sym (clerks-wanted j) in
-            let low : 1 ≤ k = omega arith in
-            let high : k ≤ lastNumber = omega (arith, e .0 .0) in
-            let copy : a .message ≡ day (suc j) = e .0 .1 low ∙ ap day i in
-            let step : next (lineLimit L) (clerks j) a ≡ clerks (suc j)
-            = next-at (lineLimit L) (clerks j) a low high here ∙ ap (wantedDone (lineLimit L) (clerks j)) copy ∙ clerks-next j in
-            let before = wants s a bl bm (clerks j) h in
-            let later = ap (λ (b : Book). b .wanted) step in
+            let n = is-next j s a bl bm h (e .0) i in
+            let g = stands-left told (n .leaves) in
+            let before = wants R L s (book j) h ∙ clerks-wanted R L day N fits sheet j in
+            let later = wanted-then (suc j) g in
             let moved : eqb (r .counters .wanted) (wantedIn s) ≡ false
-            = ne-eqb (r .counters .wanted) (wantedIn s)
-            (λ y. omega (arith, y, before, wanted-left, later, clerks-wanted j, clerks-wanted (suc j))) in
-            let number : delivered s a .answer ≡ clerks-answer j
-            = says s a bl bm (clerks j) h low high here ∙ ap (content (lineLimit L) (clerks j)) copy ∙ clerks-says j in
+            = ne-eqb (r .counters .wanted) (wantedIn s) (λ y. omega (arith, y, before, later)) in
             let said : r .answer ≡ answerOf (clerks-answer j)
-            = answer-said s a (r .answer) (clerks-answer j) (ap (λ (o : Outcome). o .answer) q) number in
-            let rest = more (subst (λ (b : Book). Stands R L b left) step then) in
-            rw (moved, got-at (suc j) k (numbers l) w, i, copy, said, rest)
+            = answer-said s a (r .answer) (clerks-answer j) (ap (λ (o : Outcome). o .answer) q) (n .answer) in
+            rw (moved, got-at (suc j) k (numbers l) w, i, n .copy, said, more g)
         go false w more same =
-            let other = next-other (lineLimit L) (clerks j) a (λ y. eqb-false k (suc j) w (y ∙ clerks-wanted j)) in
+            let g = stands-left told (not-next j s a bl bm h (e .0) w .leaves) in
             let still : eqb (r .counters .wanted) (wantedIn s) ≡ true
             = eq-eqb (r .counters .wanted) (wantedIn s)
-            (wanted-left ∙ ap (λ (b : Book). b .wanted) other ∙ sym (wants s a bl bm (clerks j) h)) in
-            let rest = same (subst (λ (b : Book). Stands R L b left) other then) in
-            rw (still, got-other (suc j) k (numbers l) w) rest
+            (wanted-then j g ∙ sym (wants R L s (book j) h ∙ clerks-wanted R L day N fits sheet j)) in
+            rw (still, got-other (suc j) k (numbers l) w) (same g)
+
+    -- what the calls of the run named is what the clerk's taken messages name, who has the newest first
+    named-from : {s end : State} {l : List Arrival} (j : ℕ) (h : Delivers s l end) → Stands R L (book j) s → Copies day N l
+        → namedIn (taken (got (suc j) (numbers l) + j)) ≡ reverseAux (namedBy h) (namedIn (taken j))
+    unfolding namedBy
+    named-from j no-message h e = ap (λ (k : ℕ). namedIn (taken k)) (got-none j)
+    named-from j (a-message κs c r x {l} {end} bl bm q t) h e =
+        go (eqb k (suc j)) refl (λ y. named-from (suc j) t y (e .1)) (λ y. named-from j t y (e .1))
+      where
+        s : State
+        s = deliverFrom κs c
+
+        a : Arrival
+        a = deliverGiven κs c
+
+        k : ℕ
+        k = a .number
+
+        left : State
+        left = deliverLeft κs c r x .state
+
+        told : delivered s a .state ≡ left
+        told = left-state (deliverLeft κs c r x) (delivered s a) q
+
+        said : numberOf (r .answer) ≡ delivered s a .answer
+        said = ap (λ (o : Outcome). o .answer) q
+
+        ks : List ℕ
+        ks = numbers l
+
+        go : (b : Bool) → eqb k (suc j) ≡ b
+            → (Stands R L (book (suc j)) left
+            → namedIn (taken (got (suc (suc j)) ks + suc j)) ≡ reverseAux (namedBy t) (namedIn (taken (suc j))))
+            → (Stands R L (book j) left → namedIn (taken (got (suc j) ks + j)) ≡ reverseAux (namedBy t) (namedIn (taken j)))
+            → namedIn (taken (got (suc j) (k ∷ ks) + j))
+            ≡ reverseAux (namesDone (a .message) (numberOf (r .answer)) ++ namedBy t) (namedIn (taken j))
+        go true w more same =
+            let n = is-next j s a bl bm h (e .0) (eqb-true k (suc j) w) in
+            let g : got (suc j) (k ∷ ks) + j ≡ got (suc (suc j)) ks + suc j = omega (arith, got-at (suc j) k ks w) in
+            ap (λ (i : ℕ). namedIn (taken i)) g
+            ∙ more (stands-left told (n .leaves))
+            ∙ ap (reverseAux (namedBy t)) (taken-named j)
+            ∙ ap₂ (λ (m : List ℕ) (i : ℕ). reverseAux (namedBy t) (reverseAux (namesDone m i) (namedIn (taken j)))) (sym (n .copy))
+            (sym (said ∙ n .answer))
+            ∙ sym (reverseAux-append (namesDone (a .message) (numberOf (r .answer))) (namedBy t) (namedIn (taken j)))
+        go false w more same =
+            let n = not-next j s a bl bm h (e .0) w in
+            let z : eqb (numberOf (r .answer)) 0 ≡ false = ne-eqb (numberOf (r .answer)) 0 (λ y. n .refused (sym said ∙ y)) in
+            rw (z, got-other (suc j) k ks w) (same (stands-left told (n .leaves)))
 
 -- ---- the day
 
@@ -376,41 +361,46 @@ module _ (day : ℕ → List ℕ) (N n : ℕ) (fits : N ≤ lastNumber) (l : Lis
   unfolding bookOf clerkBook bookBy
   wants-next = ap (λ (b : Book). b .wanted) (stands .reads) ∙ ap suc (upto-length day n)
 
-  the-rows : rowsIn end ≡ map (rowOf (takenOf sheet room (upto day n))) sheet
-  unfolding bookOf clerkBook bookBy
-  the-rows = ap (λ (b : Book). b .rows) (stands .reads)
-
-  the-lines : linesIn end ≡ tradesOf (takenOf sheet room (upto day n))
-  unfolding bookOf clerkBook bookBy
-  the-lines = ap (λ (b : Book). b .lines) (stands .reads)
-
   -- a row's reading then tells what the clerk shows of a listed symbol
   pub listed-row : {symbol : List ℕ} {r : Shown} → Reads end symbol r → (x : Listing) → List·Memᴰ x sheet → symbol ≡ x .symbol
       → r ≡ record { answer = answerOf 0; row = shownBy (takenOf sheet room (upto day n)) x }
   listed-row c x m e =
       reads-are c
       ∙ ap (shown end) e
-      ∙ row-shown end (stands .safe) sheet (takenOf sheet room (upto day n)) the-rows the-lines once x m
+      ∙ shown-listed (length rows) (length lines) sheet room (upto day n) end stands once x m
 
   -- and 7 of any other
   pub unlisted-row : {symbol : List ℕ} {r : Shown} → Reads end symbol r → isIn symbol (symbolsIn sheet) ≡ false
       → r ≡ record { answer = answerOf 7; row = nothingShown }
   unlisted-row {symbol} c e =
       reads-are c
-      ∙ row-missing end (stands .safe) sheet (takenOf sheet room (upto day n)) the-rows the-lines symbol e
+      ∙ shown-missing (length rows) (length lines) sheet room (upto day n) end stands symbol e
+
+  lines-are : linesIn end ≡ tradesOf (takenOf sheet room (upto day n))
+  lines-are = the-lines (length rows) (length lines) sheet room (upto day n) end stands
 
   -- the live ones of its used lines are exactly those that some taken message made and none named since
   pub book-live : (x : Line) → (List·Memᴰ x (linesIn end) × (x .live ≡ true)) ↔ MadeLive (takenOf sheet room (upto day n)) x
   unfolding clerkBook bookBy
-  book-live x = rw the-lines (live-exactly sheet room (upto day n) x)
+  book-live x = rw lines-are (live-exactly sheet room (upto day n) x)
 
   -- no two of its used lines bear one key
   pub lines-once : NoRepeat (keysOf (linesIn end))
-  lines-once = rw the-lines (one-trade-per-key sheet room (upto day n))
+  lines-once = rw lines-are (one-trade-per-key sheet room (upto day n))
 
-  -- and no key was named twice by a taken X or C
-  pub named-once : NoRepeat (namedIn (takenOf sheet room (upto day n)))
-  named-once = at-most-once sheet room (upto day n)
+  -- the keys that its calls named are those that the clerk's taken messages name, who has the newest first
+  pub named-calls : namedIn (takenOf sheet room (upto day n)) ≡ reverse (namedBy (h .delivers))
+  unfolding upto takenOf namedIn
+  named-calls =
+      let k = subst (λ (b : Book). Stands (length rows) (length lines) b (h .ready)) (listed-is sheet room) (sheet-stands h) in
+      let g : n ≡ got 1 (numbers l) + 0
+      = omega (arith, largest-one (numbers l) (got 1 (numbers l)) n (largest-got (numbers l)) largest) in
+      ap (λ (i : ℕ). namedIn (takenOf sheet room (upto day i))) g
+      ∙ named-from (length rows) (length lines) day N fits sheet once 0 (h .delivers) k copies
+
+  -- of its deliveries that were X or C and were answered 0, no two named one key
+  pub named-once : NoRepeat (namedBy (h .delivers))
+  named-once = no-repeat-turned (namedBy (h .delivers)) (subst NoRepeat named-calls (at-most-once sheet room (upto day n)))
 
 -- two runs of one day with one sheet, one size of room for lines and one n end in the clerk's book, both, and so in equal books,
 -- whatever the rooms held before
@@ -439,18 +429,6 @@ equal-books day N n fits {rooms} {ls} {l} {end} {rooms′} {ls′} {l′} {end�
         ap (λ (s : List Listing). clerkBook s (lineLimit (length (rooms .lines))) (upto day n)) es
         ∙ ap (λ (k : ℕ). clerkBook (clerkSheet (rowLimit (length (rooms′ .rows))) ls′) (lineLimit k) (upto day n)) el
         )
-
--- a book that wants another number than 1 refuses every listing
-late : (s : State) (l : Listing) → (wantedIn s ≡ 1 → ⊥) → listed s l .answer ≡ 0 → ⊥
-unfolding listed listAnswer
-late s l w e = go (soundIn s) e
-  where
-    cases : List Case
-    cases = listTable (wantedIn s) (State-of.sheetOf s) (rowLimit (length (s .rows))) l
-
-    go : (b : Bool) → given (inBook b cases) .number ≡ 0 → ⊥
-    go true e = w (listable (wantedIn s) _ _ l e .early)
-    go false e = omega arith
 
 -- once the book wants another number than 1, a listing leaves the state as it was
 pub listings-first : (κs : ListLfts) (a : ListArgs κs) (r : Said) (x : ListExit κs)

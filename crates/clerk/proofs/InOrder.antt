@@ -57,7 +57,7 @@ most w (suc m) (k ∷ ks) s = go (eqb k w) refl (Sublistᴰ·cases-cons-cons s) 
     go false e (inl s) f g = rw (got-other w k ks e) (f s)
     go false e (inr p) f g = absurd (eqb-false k w e (sym (p .0)))
 
-got-none : (j : ℕ) → got (suc j) [] + j ≡ j
+pub got-none : (j : ℕ) → got (suc j) [] + j ≡ j
 unfolding got
 got-none j = omega arith
 

@@ -6,5 +6,6 @@ pub mod Lines
 pub mod Sim
 pub mod Once
 pub mod Wall
+pub mod States
 pub mod Demand3
 pub mod Runs

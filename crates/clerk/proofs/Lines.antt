@@ -1,9 +1,9 @@
 -- Lists of texts and of lines: a text at most once, the first line that bears a key, a line made dead.
 -- Assumes nothing.
 use Prim.Native.Nat.{ℕ, suc}
-use mathlib.Core.Path.{_≡_, refl, sym, ap, _∙_}
+use mathlib.Core.Path.{_≡_, refl, sym, ap, subst, _∙_}
 use mathlib.Core.Bool.{Bool, true, false, cond, _||_, true≢false}
-use mathlib.Core.List.{List, [], _∷_, _++_, map}
+use mathlib.Core.List.{List, [], _∷_, _++_, map, append-nil, reverse, reverseAux}
 use borrow.Author.Tests.{not-false}
 use lib.ListN.{getD}
 use Rattle.octets.specs.Run.{same}
@@ -73,6 +73,27 @@ no-repeat-last [] x d = refl
 no-repeat-last (y ∷ xs) x d =
     let ne : same x y ≡ false = or-false-left (same x y) false (or-false-right (isIn y xs) _ (sym (listed-append y xs (x ∷ [])) ∙ d .0)) in
     rw (same-comm y x, ne) (no-repeat-last xs x (d .1))
+
+-- a text that stands between others stands with none of them, and those have no repeat either
+no-repeat-between : (xs : List (List ℕ)) (x : List ℕ) (ys : List (List ℕ)) → NoRepeat (xs ++ (x ∷ ys))
+    → NoRepeat (x ∷ (xs ++ ys))
+no-repeat-between [] x ys d = d
+no-repeat-between (z ∷ xs) x ys d =
+    let i = no-repeat-between xs x ys (d .1) in
+    let apart : (isIn z xs || (same x z || isIn z ys)) ≡ false = sym (listed-append z xs (x ∷ ys)) ∙ d .0 in
+    let right = or-false-right (isIn z xs) (same x z || isIn z ys) apart in
+    let ne : same z x ≡ false = same-comm z x ∙ or-false-left (same x z) (isIn z ys) right in
+    let clear : isIn z (xs ++ ys) ≡ false
+    = listed-append z xs ys ∙ rw (or-false-left (isIn z xs) _ apart, or-false-right (same x z) (isIn z ys) right) in
+    (rw (ne, i .0), (clear, i .1))
+
+-- a list that turned about has no repeat has none
+pub no-repeat-turned : (xs : List (List ℕ)) → NoRepeat (reverse xs) → NoRepeat xs
+no-repeat-turned xs d = subst NoRepeat (append-nil xs) (onto xs [] d)
+  where
+    onto : (xs ys : List (List ℕ)) → NoRepeat (reverseAux xs ys) → NoRepeat (xs ++ ys)
+    onto [] ys d = d
+    onto (x ∷ xs) ys d = no-repeat-between xs x ys (onto xs (x ∷ ys) d)
 
 -- ---- the search, one step
 

@@ -1,15 +1,18 @@
 -- Of the clerk's book: taken messages name no key twice, the live lines are those that nothing named since they were made, and
 -- the figures are those that the live lines mean.
 -- Assumes nothing.
-use Prim.Native.Nat.{ℕ}
+use Prim.Native.Nat.{ℕ, suc}
 use mathlib.Core.Path.{_≡_, refl, sym, ap, subst, _∙_}
 use mathlib.Core.Logic.{_↔_, ⊎-elim}
 use mathlib.Core.Bool.{Bool, true, false, cond, _||_, true≢false}
-use mathlib.Core.List.{List, [], _∷_, _++_, List·Memᴰ, List·Memᴰ·head, List·Memᴰ·not-nil, List·Memᴰ·eq-of-singleton, List·Memᴰ·append-cases}
-use mathlib.Core.List.{Memᴰ·append-left, Memᴰ·append-right, map-append, append-nil, append-assoc}
+use mathlib.Core.List.{List, [], _∷_, _++_, reverseAux, List·Memᴰ, List·Memᴰ·head, List·Memᴰ·not-nil, List·Memᴰ·eq-of-singleton}
+use mathlib.Core.List.{List·Memᴰ·append-cases, Memᴰ·append-left, Memᴰ·append-right, map-append, append-nil, append-assoc}
 use borrow.Author.Tests.{not-true}
+use lib.Dec.{eqb}
+use lib.ListN.{length}
 use Rattle.octets.specs.Run.{same}
 use Rattle.octets.proofs.Trips.{same-is}
+use Rattle.message.specs.Reader.{readOf}
 use Rattle.records.specs.declared.Record.{Record}
 use Rattle.lines.specs.declared.Line.{Line}
 use Rattle.rows.specs.declared.Listing.{Listing}
@@ -21,8 +24,8 @@ use Rattle.walk.specs.Meaning.{Are}
 use Rattle.walk.proofs.Meaning.{figures-are, figures-one}
 use Rattle.show.specs.Showing.{shownOf}
 use Rattle.clerk.specs.Clerk.{isIn, basisAfter, Taken, Origin, originOf, names, trade, made, tradesBut, tradesOf, takenOf, rowOf}
-use Rattle.clerk.specs.Clerk.{shownBy, bookBy, clerkBook}
-use Rattle.clerk.specs.Claims.{NoRepeat, keysOf, namedIn, MadeLive}
+use Rattle.clerk.specs.Clerk.{answerTo, shownBy, bookBy, clerkBook}
+use Rattle.clerk.specs.Claims.{NoRepeat, keysOf, namedIn, namesDone, MadeLive}
 use Rattle.clerk.proofs.Passing.{Passed}
 use Rattle.clerk.proofs.Lines.{or-false-left, or-false-right, or-swap, listed-append, borne-is, named, named-hit, named-append}
 use Rattle.clerk.proofs.Lines.{named-live}
@@ -137,6 +140,28 @@ module _ (sheet : List Listing) (limit : ℕ) where
   -- the keys that taken X and C named have no repeat
   pub at-most-once : (ms : List (List ℕ)) → NoRepeat (namedIn (takenOf sheet limit ms))
   at-most-once ms = once (takenOf sheet limit ms) (took sheet limit ms)
+
+  -- one message more names what it names if it is answered 0, which turned about is itself
+  pub named-more : (ms : List (List ℕ)) (m : List ℕ)
+      → let es = takenOf sheet limit ms in
+      namedIn (takenOf sheet limit (m ∷ ms)) ≡ reverseAux (namesDone m (answerTo sheet limit es m)) (namedIn es)
+  unfolding takenOf namedIn
+  named-more ms m = go (answerTo sheet limit es m) (eqb (answerTo sheet limit es m) 0) refl
+    where
+      es : List Taken
+      es = takenOf sheet limit ms
+
+      r : Record
+      r = readOf m .found
+
+      one : (u : Bool) → cond u (oldKey r ∷ []) [] ++ namedIn es ≡ reverseAux (cond u (oldKey r ∷ []) []) (namedIn es)
+      one true = refl
+      one false = refl
+
+      go : (k : ℕ) (t : Bool) → eqb k 0 ≡ t
+          → namedIn (cond (eqb k 0) (record { number = suc (length ms); message = r } ∷ es) es) ≡ reverseAux (namesDone m k) (namedIn es)
+      go k true e = rw e (one (namesIn r))
+      go k false e = rw e
 
 -- ---- live exactly
 

@@ -4,9 +4,11 @@
 use Prim.Native.Nat.{ℕ, zero, suc}
 use mathlib.Core.Path.{_≡_}
 use mathlib.Core.List.{List, [], _∷_, _++_, map}
-use mathlib.Core.Bool.{true, false}
+use mathlib.Core.Bool.{true, false, cond}
+use lib.Dec.{eqb}
 use Rattle.answers.specs.Answers.{answerOf}
 use Rattle.answers.specs.declared.Answer.{Answer}
+use Rattle.message.specs.Reader.{readOf}
 use Rattle.lines.specs.declared.Line.{Line}
 use Rattle.rows.specs.declared.Listing.{Listing}
 use Rattle.clerk.specs.Messages.{makesIn, keyIn}
@@ -25,6 +27,10 @@ keysOf ls = map (λ (l : Line). l .key) ls
 unfoldable pub namedIn : List Taken → List (List ℕ)
 namedIn [] = []
 namedIn (e ∷ es) = names (e .message) ++ namedIn es
+
+-- the key that a message with that answer named: of an X or a C that was answered 0
+abbrev pub namesDone : List ℕ → ℕ → List (List ℕ)
+namesDone m answer = cond (eqb answer 0) (names (readOf m .found)) []
 
 -- a T or a C among the taken messages made the line, and no later X or C named it. Taken messages have the newest first
 pub record MadeLive (es : List Taken) (l : Line) : Type 0 where

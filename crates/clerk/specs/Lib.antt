@@ -3,3 +3,4 @@ pub mod Steps
 pub mod Clerk
 pub mod Arrivals
 pub mod Claims
+pub mod States
