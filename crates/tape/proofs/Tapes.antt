@@ -103,10 +103,10 @@ entry-head (Delivers k a) more z = message-head k (a .number) (a .message) (z .0
 bytes-drop : (b : List ℕ) (n : ℕ) → Bytes b → Bytes (drop n b)
 bytes-drop b n h i = rw getD-drop (h (n + i))
 
-bytes-behind : (a b : List ℕ) → Bytes (a ++ b) → Bytes b
+pub bytes-behind : (a b : List ℕ) → Bytes (a ++ b) → Bytes b
 bytes-behind a b h i = rw getD-append-add at (h (length a + i))
 
-bytes-take : (b : List ℕ) (n : ℕ) → Bytes b → Bytes (take n b)
+pub bytes-take : (b : List ℕ) (n : ℕ) → Bytes b → Bytes (take n b)
 bytes-take [] zero h i = h i
 bytes-take [] (suc n) h i = h i
 bytes-take (x ∷ b) zero h i = lit< tt
