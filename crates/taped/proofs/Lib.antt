@@ -1,1 +1,2 @@
 pub mod TapeDay
+pub mod Printed

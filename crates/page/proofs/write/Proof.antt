@@ -6,6 +6,8 @@ use native.Mathlib.Omega.{arith}
 use borrow.Author.Needs.{needs}
 use lib.ListN.{length}
 use Rattle.book.specs.State.{lent}
+use Rattle.page.specs.Printable.{Printable}
+use Rattle.page.proofs.Fitting.{ending-good}
 use Rattle.page.proofs.Laws.{rows-most, Written, none-yet, within, next-turn, all-turns}
 use Rattle.page.proofs.write.Statement.{statement}
 use Rattle.page.proofs.write.Tie as tie
@@ -15,6 +17,20 @@ Inv-loop c rows lines ending out₀ end room k₀ at₀ out k at = (k ≤ end) �
 
 abbrev μ-loop : tie.MeasureT-loop
 μ-loop c rows lines ending out₀ end room k₀ at₀ out k at = end - k
+
+-- what a call is lent and told is what its types say
+pub entered : (c : tie.After-slice-known Inv-loop μ-loop)
+    → let s = c .before .before .before in
+    Printable (lent (s .args .c) (s .args .rows .now) (s .args .lines .now)) (s .args .ending)
+entered c =
+    let s = c .before .before .before in
+    record {
+      rows = λ i. c .before .before .shared-slice-known .given i .fits;
+      lines = λ i. c .before .shared-slice-known2 .given i .fits;
+      taken = search needs;
+      wanted = search needs;
+      ending = ending-good (s .args .ending) _ (s .good .1 .1 .1 .0);
+    }
 
 printed-requires : tie.Need-printed-requires Inv-loop μ-loop
 printed-requires c κs = tt
