@@ -48,9 +48,10 @@ asked-fits [] f b = tt
 asked-fits (Lists l ∷ es) f b =
     let c = f .0 in
     (record { symbol = c .0; close = omega arith }, asked-fits es (f .1) (bytes-behind (entryBytes (Lists l)) (tapeOf es) b))
-asked-fits (Delivers k a ∷ es) f b =
-    (bytes-behind (k ∷ digits 4 (a .number)) (a .message) (bytes-before (entryBytes (Delivers k a)) (tapeOf es) b),
-    asked-fits es (f .1) (bytes-behind (entryBytes (Delivers k a)) (tapeOf es) b))
+asked-fits (Delivers k a ∷ es) f b = (
+  bytes-behind (k ∷ digits 4 (a .number)) (a .message) (bytes-before (entryBytes (Delivers k a)) (tapeOf es) b),
+  asked-fits es (f .1) (bytes-behind (entryBytes (Delivers k a)) (tapeOf es) b),
+)
 
 -- ---- the wall of a book that is the clerk's
 
