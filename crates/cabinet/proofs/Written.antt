@@ -73,7 +73,8 @@ module _ (κs : Lfts 2) (a : ArgsD write.signature κs) (r : ℕ) (s : AtExit (e
       ∙ subst (λ (n : ℕ). readOf (take n (writeOut meant before)) ≡ acceptedOf meant) (sym (long-is meant (w .0))) q
 
   -- and it obeys its layout, each field of it standing for what the record holds
-  pub written-stands : r ≡ 0 → (o : Obeys (take long after)) × Each (λ e. holds meant (fieldOf e) ≡ stands e (take long after)) (o .type .entries)
+  pub written-stands : r ≡ 0
+      → (o : Obeys (take long after)) × Each (λ e. holds meant (fieldOf e) ≡ stands e (take long after)) (o .type .entries)
   written-stands z =
       let w = lawful z in
       let stood : List ℕ → Type 0
