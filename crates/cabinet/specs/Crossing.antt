@@ -7,8 +7,18 @@ use lib.ListN.{length}
 use Rattle.octets.specs.Run.{Bytes}
 use Rattle.rows.specs.declared.Listing.{Listing}
 use Rattle.rows.specs.Changed.{ListingFits}
-use Rattle.book.specs.State.{State, Outcome}
-use Rattle.words.specs.Words.{counterCount, counterWords}
+use Rattle.book.specs.State.{State, lent, Outcome}
+use Rattle.words.specs.Words.{counterCount, counterWords, countersOf}
+
+-- what a caller holds between calls: the words of the counters, and the rooms
+pub record Held : Type 0 where
+  pub words : List ℕ
+  pub rows : List ℕ
+  pub lines : List ℕ
+
+-- the state that these come to
+abbrev pub stateOf : Held → State
+stateOf h = lent (countersOf (h .words)) (h .rows) (h .lines)
 
 -- a symbol and a close, as a call is given them
 abbrev pub listingWith : List ℕ → ℕ → Listing
