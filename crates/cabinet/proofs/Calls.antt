@@ -26,9 +26,9 @@ module _ (k : Counters) (s : State) (e : s .counters ≡ k) where
   state-is = ap (λ (c : Counters). withCounters c s) e
 
   module _ (o : Outcome) (a : ℕ) (w₁ : List ℕ) (p : w₁ ≡ counterWords (o .state .counters)) (n : a ≡ o .answer) where
-    pub list-said : (l : Listing) → o ≡ listed s l
+    pub list-said : (l given : Listing) → given ≡ l → o ≡ listed s given
         → crossed a w₁ (withCounters (countersOf w₁) (o .state)) ≡ crossing (listed (withCounters k s) l)
-    list-said l h = told-crosses o a w₁ n p ∙ ap crossing (h ∙ ap (λ (x : State). listed x l) state-is)
+    list-said l given g h = told-crosses o a w₁ n p ∙ ap crossing (h ∙ ap (listed s) g ∙ ap (λ (x : State). listed x l) state-is)
 
     pub deliver-said : (d : Arrival) → o ≡ delivered s d
         → crossed a w₁ (withCounters (countersOf w₁) (o .state)) ≡ crossing (delivered (withCounters k s) d)

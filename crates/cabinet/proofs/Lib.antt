@@ -1,4 +1,6 @@
 pub mod Calls
 pub mod Sizes
+pub mod Given
 pub mod Refused
 pub mod Promise
+pub mod Written

@@ -50,7 +50,7 @@ pub list-one : (κs : Lfts (list.signature .lifetimes)) (a : ArgsD list.signatur
     (s s′ : AtExit (endedOf (list.signature .lifetimes) list-kinds.ps list-kinds.r) κs)
     → list-reads.Learnt κs a r s → list-reads.Learnt κs a r′ s′ → (r ≡ r′) × (now (s .0) ≡ now (s′ .0)) × (now (s .1 .0) ≡ now (s′ .1 .0))
 list-one κs a r r′ s s′ h h′ =
-    let e = h ∙ sym h′ in
+    let e = h .0 ∙ sym (h′ .0) in
     (ap (λ (x : Crossed). x .answer) e, ap (λ (x : Crossed). x .words) e, ap (λ (x : Crossed). x .state .rows) e)
 
 pub deliver-one : (κs : Lfts (deliver.signature .lifetimes)) (a : ArgsD deliver.signature κs) (r r′ : ℕ)
@@ -58,7 +58,7 @@ pub deliver-one : (κs : Lfts (deliver.signature .lifetimes)) (a : ArgsD deliver
     → deliver-reads.Learnt κs a r s → deliver-reads.Learnt κs a r′ s′
     → (r ≡ r′) × (now (s .0) ≡ now (s′ .0)) × (now (s .1 .0) ≡ now (s′ .1 .0)) × (now (s .1 .1 .0) ≡ now (s′ .1 .1 .0))
 deliver-one κs a r r′ s s′ h h′ =
-    let e = h ∙ sym h′ in
+    let e = h .0 ∙ sym (h′ .0) in
     let left = ap (λ (x : Crossed). x .state) e in (
       ap (λ (x : Crossed). x .answer) e,
       ap (λ (x : Crossed). x .words) e,
@@ -77,7 +77,7 @@ read-one κs a r r′ s s′ h h′ = (h .0 ∙ sym (h′ .0), h .1 ∙ sym (h�
 
 pub write-one : (κs : Lfts 2) (a : ArgsD write.signature κs) (r r′ : ℕ) (s s′ : AtExit (endedOf 2 write-kinds.ps write-kinds.r) κs)
     → write-reads.Learnt κs a r s → write-reads.Learnt κs a r′ s′ → (r ≡ r′) × (now (s .1 .0) ≡ now (s′ .1 .0))
-write-one κs a r r′ s s′ h h′ = (h .0 ∙ sym (h′ .0), h .1 ∙ sym (h′ .1))
+write-one κs a r r′ s s′ h h′ = (h .0 ∙ sym (h′ .0), h .1 .0 ∙ sym (h′ .1 .0))
 
 pub size-one : (which which₁ which₂ r r′ : ℕ) → size-reads.Learnt tt (which, tt) r (which₁, tt)
     → size-reads.Learnt tt (which, tt) r′ (which₂, tt) → r ≡ r′
@@ -97,5 +97,5 @@ written-back κs κs′ a b r s w x h k e m z l =
     let f : recordOf (now (b .0)) ≡ q = ap recordOf (e ∙ h .1) ∙ record-again q (read-fits (now (a .0)) m) in
     let g = read-again (now (a .0)) out m (sym (h .0) ∙ z) l in (
       k .0 ∙ ap (λ (o : Record). numberOf (writeAnswer o out)) f ∙ g .0,
-      k .1 ∙ ap (λ (o : Record). writeOut o out) f ∙ g .1,
+      k .1 .0 ∙ ap (λ (o : Record). writeOut o out) f ∙ g .1,
     )

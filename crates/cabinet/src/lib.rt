@@ -1,6 +1,7 @@
 // The library as C and Rust link it. Every function takes any counters, any bytes and any slices, and asks nothing of
 // its caller. All but `sorundappa_start`, which answers nothing, and `sorundappa_size`, which tells a size, answer a
-// number of document 01's table.
+// number of document 01's table. A clause `types` says what the types of the parameters say of what came in, for whoever
+// reasons about calls.
 // `include/sorundappa.h` says the same in C.
 use answers::Answer;
 use rows::Listing;
@@ -12,15 +13,28 @@ ghost use Rattle.counters.specs.Counting.{freshCounters};
 ghost use Rattle.book.specs.State.{lent, arrives};
 ghost use Rattle.book.specs.Calls.{listed, delivered, shown};
 ghost use Rattle.words.specs.Words.{counterWords, countersOf, rowWords};
+ghost use Rattle.rows.specs.Changed.{ListingFits};
+ghost use Rattle.records.specs.Fits.{RecordFits};
 ghost use Rattle.records.specs.Packed.{recordOf, recordBytes};
 ghost use Rattle.cabinet.specs.Sizes.{sizeOf};
-ghost use Rattle.cabinet.specs.Crossing.{listingWith, crossed, crossing};
+ghost use Rattle.cabinet.specs.Crossing.{listingWith, crossed, crossing, ListTyped, DeliverTyped};
 
 // The number of an answer in the table: what every call but the first and the last tells.
 fn told(a: Answer) -> u8
     ensures { λ n. ⌜ n ≡ numberOf a ⌝ }
 {
     answers::number(a)
+}
+
+// A symbol and its close as a listing: eight bytes, and a number of four.
+fn listing(symbol: [u8; 8], close: u32) -> Listing
+    ensures made { λ l. ⌜ l ≡ listingWith symbol close ⌝ }
+    ensures fits { λ l. ⌜ ListingFits (listingWith symbol close) ⌝ }
+{
+    Listing {
+        symbol: symbol,
+        close: close,
+    }
 }
 
 // The words of a fresh book. No lent byte is written.
@@ -41,17 +55,16 @@ pub extern "C" fn sorundappa_list(
     symbol: &[u8; 8],
     close: u32,
 ) -> u8
-    ensures { λ a. ⌜ crossed a (now (counters .exit))
+    ensures left { λ a. ⌜ crossed a (now (counters .exit))
         (lent (countersOf (now (counters .exit))) (now (rows .exit)) (now (lines .entry)))
         ≡ crossing (listed (lent (countersOf (now (counters .entry))) (now (rows .entry)) (now (lines .entry)))
         (listingWith (now (symbol .entry)) close)) ⌝ }
+    ensures types { λ a. ⌜ ListTyped (now (counters .entry)) (listingWith (now (symbol .entry)) close) ⌝ }
 {
+    let words = *counters;
     let name = *symbol;
-    let before = words::counters(counters);
-    let l = Listing {
-        symbol: name,
-        close: close,
-    };
+    let before = words::counters(words);
+    let l = listing(name, close);
     let s = book::list(before, rows, lines, l);
     let a = s.answer;
     let listed = s.counters;
@@ -68,12 +81,14 @@ pub extern "C" fn sorundappa_deliver(
     number: u64,
     message: &[u8],
 ) -> u8
-    ensures { λ a. ⌜ crossed a (now (counters .exit))
+    ensures left { λ a. ⌜ crossed a (now (counters .exit))
         (lent (countersOf (now (counters .exit))) (now (rows .exit)) (now (lines .exit)))
         ≡ crossing (delivered (lent (countersOf (now (counters .entry))) (now (rows .entry)) (now (lines .entry)))
         (arrives number (now (message .entry)))) ⌝ }
+    ensures types { λ a. ⌜ DeliverTyped (now (counters .entry)) (now (lines .entry)) (now (message .entry)) ⌝ }
 {
-    let before = words::counters(counters);
+    let words = *counters;
+    let before = words::counters(words);
     let s = book::deliver(before, rows, lines, number, message);
     let a = s.answer;
     let after = s.counters;
@@ -97,8 +112,9 @@ pub extern "C" fn sorundappa_row(
         ≡ rowWords (shown (lent (countersOf (now (counters .entry))) (now (rows .entry)) (now (lines .entry)))
         (now (symbol .entry)) .row) ⌝ }
 {
+    let words = *counters;
     let name = *symbol;
-    let c = words::counters(counters);
+    let c = words::counters(words);
     let s = book::row(c, rows, lines, name);
     let a = s.answer;
     let shown = s.row;
@@ -121,6 +137,7 @@ pub extern "C" fn sorundappa_read(message: &[u8], out: &mut [u8; records::RECORD
 pub extern "C" fn sorundappa_write(bytes: &[u8; records::RECORD], out: &mut [u8]) -> u8
     ensures answer { λ a. ⌜ a ≡ numberOf (writeAnswer (recordOf (now (bytes .entry))) (now (out .entry))) ⌝ }
     ensures out { λ a. ⌜ now (out .exit) ≡ writeOut (recordOf (now (bytes .entry))) (now (out .entry)) ⌝ }
+    ensures types { λ a. ⌜ RecordFits (recordOf (now (bytes .entry))) ⌝ }
 {
     let a = message::write_packed(bytes, out);
     told(a)

@@ -27,7 +27,7 @@ use Rattle.clerk.specs.Steps.{Book, bookOf, wantedDone, next, listing}
 use Rattle.clerk.specs.Clerk.{isIn, symbolsIn, sheetFrom, clerkSheet, Taken, tradesOf, takenOf, rowOf, shownBy, bookBy, clerkBook}
 use Rattle.clerk.specs.Arrivals.{Largest, numbers, Copies, upto}
 use Rattle.clerk.specs.Claims.{NoRepeat}
-use Rattle.clerk.specs.States.{Asked, toList, toDeliver, askedAll, arrivalsIn, listingsIn, AskedFit}
+use Rattle.clerk.specs.States.{Asked, toList, toDeliver, askedAll, arrivalsIn, listingsIn, AskedFit, AskedIn}
 use Rattle.clerk.proofs.Steps.{deliver-step, list-step, deliver-sound, list-sound, fresh-sound}
 use Rattle.clerk.proofs.Passing.{listable}
 use Rattle.clerk.proofs.Lent.{deliver-bytes}
@@ -167,21 +167,19 @@ module _ (R L : ℕ) where
         next-other (lineLimit L) (clerks sheet j) a (λ q. eqb-false (a .number) (suc j) e (q ∙ clerks-wanted sheet j))
 
     -- from the book after the first j on, at least one: as many more are used as come in order, and listings come too late
-    used-up : (sheet : List Listing) → NoRepeat (symbolsIn sheet) → (j : ℕ) (s : State) (qs : List Asked) → AskedFit qs
-        → Bytes (s .lines) → Copies day N (arrivalsIn qs) → Stands R L (clerks sheet (suc j)) s
+    used-up : (sheet : List Listing) → NoRepeat (symbolsIn sheet) → (j : ℕ) (s : State) (qs : List Asked) → AskedIn s qs
+        → Copies day N (arrivalsIn qs) → Stands R L (clerks sheet (suc j)) s
         → Stands R L (clerks sheet (got (suc (suc j)) (numbers (arrivalsIn qs)) + suc j)) (askedAll s qs)
     unfolding askedAll
-    used-up sheet once j s [] f bl c h = subst (λ (k : ℕ). Stands R L (clerks sheet k) s) (sym (got-none (suc j))) h
-    used-up sheet once j s (toList l ∷ qs) f bl c h =
+    used-up sheet once j s [] f c h = subst (λ (k : ℕ). Stands R L (clerks sheet k) s) (sym (got-none (suc j))) h
+    used-up sheet once j s (toList l ∷ qs) f c h =
         let w : wantedIn s ≡ suc (suc j) = wants s _ h ∙ clerks-wanted sheet (suc j) in
         let e = refused-keeps s .list l (late s l (λ z. omega arith)) in
-        used-up sheet once j (listed s l .state) qs (f .1) (subst Bytes (sym (touches-only s .listedLines l)) bl) c
+        used-up sheet once j (listed s l .state) qs (f .1) c
         (subst (Stands R L (clerks sheet (suc j))) (sym e) h)
-    used-up sheet once j s (toDeliver a ∷ qs) f bl c h =
+    used-up sheet once j s (toDeliver a ∷ qs) f c h =
         let t = delivered s a .state in
-        let b = deliver-bytes s a bl (f .0) in
-        go (eqb (a .number) (suc (suc j))) refl (used-up sheet once (suc j) t qs (f .1) b (c .1))
-        (used-up sheet once j t qs (f .1) b (c .1))
+        go (eqb (a .number) (suc (suc j))) refl (used-up sheet once (suc j) t qs (f .1) (c .1)) (used-up sheet once j t qs (f .1) (c .1))
       where
         ks : List ℕ
         ks = numbers (arrivalsIn qs)
@@ -190,7 +188,7 @@ module _ (R L : ℕ) where
         left = delivered s a .state
 
         then : Stands R L (next (lineLimit L) (clerks sheet (suc j)) a) left
-        then = delivered-stands s a bl (f .0) (clerks sheet (suc j)) h
+        then = delivered-stands s a (f .0 .0) (f .0 .1) (clerks sheet (suc j)) h
 
         go : (t : Bool) → eqb (a .number) (suc (suc j)) ≡ t
             → (Stands R L (clerks sheet (suc (suc j))) left
@@ -209,20 +207,17 @@ module _ (R L : ℕ) where
             (same (subst (λ (b : Book). Stands R L b left) (clerks-other sheet (suc j) a e) then))
 
     -- from a book that is only listed in: the listings in time are on the sheet, and as many messages are used as come in order from 1
-    from-listed : (sheet : List Listing) → NoRepeat (symbolsIn sheet) → (s : State) (qs : List Asked) → AskedFit qs → Bytes (s .lines)
+    from-listed : (sheet : List Listing) → NoRepeat (symbolsIn sheet) → (s : State) (qs : List Asked) → AskedIn s qs
         → Copies day N (arrivalsIn qs) → Stands R L (listedBook sheet) s
         → Stands R L (clerks (sheetFrom (rowLimit R) sheet (listingsIn qs)) (got 1 (numbers (arrivalsIn qs)))) (askedAll s qs)
     unfolding askedAll sheetFrom got upto
-    from-listed sheet once s [] f bl c h = subst (λ (b : Book). Stands R L b s) (listed-is sheet (lineLimit L)) h
-    from-listed sheet once s (toList l ∷ qs) f bl c h =
-        from-listed (plus (rowLimit R) sheet l) (sheet-once (rowLimit R) sheet (l ∷ []) once) (listed s l .state) qs (f .1)
-        (subst Bytes (sym (touches-only s .listedLines l)) bl) c (listed-stands s l (f .0) sheet h)
-    from-listed sheet once s (toDeliver a ∷ qs) f bl c h =
-        go (eqb (a .number) 1) refl (from-listed sheet once (delivered s a .state) qs (f .1) b (c .1))
+    from-listed sheet once s [] f c h = subst (λ (b : Book). Stands R L b s) (listed-is sheet (lineLimit L)) h
+    from-listed sheet once s (toList l ∷ qs) f c h =
+        from-listed (plus (rowLimit R) sheet l) (sheet-once (rowLimit R) sheet (l ∷ []) once) (listed s l .state) qs (f .1) c
+        (listed-stands s l (f .0) sheet h)
+    from-listed sheet once s (toDeliver a ∷ qs) f c h =
+        go (eqb (a .number) 1) refl (from-listed sheet once (delivered s a .state) qs (f .1) (c .1))
       where
-        b : Bytes (delivered s a .state .lines)
-        b = deliver-bytes s a bl (f .0)
-
         ks : List ℕ
         ks = numbers (arrivalsIn qs)
 
@@ -231,7 +226,7 @@ module _ (R L : ℕ) where
 
         then : Stands R L (next (lineLimit L) (clerks sheet 0) a) left
         then =
-            delivered-stands s a bl (f .0) (clerks sheet 0)
+            delivered-stands s a (f .0 .0) (f .0 .1) (clerks sheet 0)
             (subst (λ (b : Book). Stands R L b s) (listed-is sheet (lineLimit L)) h)
 
         go : (t : Bool) → eqb (a .number) 1 ≡ t
@@ -244,11 +239,33 @@ module _ (R L : ℕ) where
             let step = clerks-at sheet once 0 a i (c .0 .0) (c .0 .1) in
             let g : got 2 ks + 1 ≡ suc (got 2 ks) = omega arith in
             subst (λ (k : ℕ). Stands R L (clerks sheet k) (askedAll left qs)) g
-            (used-up sheet once 0 left qs (f .1) b (c .1) (subst (λ (b : Book). Stands R L b left) step then))
+            (used-up sheet once 0 left qs (f .1) (c .1) (subst (λ (b : Book). Stands R L b left) step then))
         go false e same =
             same (subst (λ (b : Book). Stands R L b left) (clerks-other sheet 0 a e ∙ sym (listed-is sheet (lineLimit L))) then)
 
--- the law: a fresh book in rooms of any bytes, asked anything in any order, of copies of the day's messages, 1 to n at most in order
+-- a room for lines that is of bytes stays so: what fits its types fits them as it comes
+asked-in : (s : State) → Bytes (s .lines) → (qs : List Asked) → AskedFit qs → AskedIn s qs
+asked-in s bl [] f = tt
+asked-in s bl (toList l ∷ qs) f = (f .0, asked-in (listed s l .state) (subst Bytes (sym (touches-only s .listedLines l)) bl) qs (f .1))
+asked-in s bl (toDeliver a ∷ qs) f = ((bl, f .0), asked-in (delivered s a .state) (deliver-bytes s a bl (f .0)) qs (f .1))
+
+-- the law: a fresh book in rooms of any contents, asked anything in any order, of copies of the day's messages, 1 to n at most in order
+pub steps-from : (day : ℕ → List ℕ) (N n : ℕ) → N ≤ lastNumber → (rooms : State) (qs : List Asked)
+    → AskedIn (withCounters freshCounters rooms) qs → Copies day N (arrivalsIn qs) → Largest (numbers (arrivalsIn qs)) n
+    → let R = length (rooms .rows) in
+    let L = length (rooms .lines) in
+    let book = clerkBook (clerkSheet (rowLimit R) (listingsIn qs)) (lineLimit L) (upto day n) in
+    Stands R L book (askedAll (withCounters freshCounters rooms) qs)
+steps-from day N n fits rooms qs f c h =
+    let R = length (rooms .rows) in
+    let L = length (rooms .lines) in
+    let ks = numbers (arrivalsIn qs) in
+    let s = withCounters freshCounters rooms in
+    subst (λ (k : ℕ). Stands R L (clerkBook (clerkSheet (rowLimit R) (listingsIn qs)) (lineLimit L) (upto day k)) (askedAll s qs))
+    (largest-one ks (got 1 ks) n (largest-got ks) h)
+    (from-listed R L day N fits [] tt s qs f c (fresh-stands rooms))
+
+-- and of rooms of bytes
 pub steps-are : (day : ℕ → List ℕ) (N n : ℕ) → N ≤ lastNumber → (rooms : State) → Bytes (rooms .lines) → (qs : List Asked) → AskedFit qs
     → Copies day N (arrivalsIn qs) → Largest (numbers (arrivalsIn qs)) n
     → let R = length (rooms .rows) in
@@ -256,13 +273,7 @@ pub steps-are : (day : ℕ → List ℕ) (N n : ℕ) → N ≤ lastNumber → (r
     let book = clerkBook (clerkSheet (rowLimit R) (listingsIn qs)) (lineLimit L) (upto day n) in
     Stands R L book (askedAll (withCounters freshCounters rooms) qs)
 steps-are day N n fits rooms bl qs f c h =
-    let R = length (rooms .rows) in
-    let L = length (rooms .lines) in
-    let ks = numbers (arrivalsIn qs) in
-    let s = withCounters freshCounters rooms in
-    subst (λ (k : ℕ). Stands R L (clerkBook (clerkSheet (rowLimit R) (listingsIn qs)) (lineLimit L) (upto day k)) (askedAll s qs))
-    (largest-one ks (got 1 ks) n (largest-got ks) h)
-    (from-listed R L day N fits [] tt s qs f bl c (fresh-stands rooms))
+    steps-from day N n fits rooms qs (asked-in (withCounters freshCounters rooms) bl qs f) c h
 
 -- ---- what a row's reading tells then
 

@@ -42,3 +42,9 @@ abbrev pub AskedFit : List Asked → Type 0
 AskedFit [] = Unit {0}
 AskedFit (toList l ∷ qs) = ListingFits l × AskedFit qs
 AskedFit (toDeliver a ∷ qs) = Bytes (a .message) × AskedFit qs
+
+-- as each comes, each listing is what its type says, and each message and the room for lines that it finds are bytes
+abbrev pub AskedIn : State → List Asked → Type 0
+AskedIn s [] = Unit {0}
+AskedIn s (toList l ∷ qs) = ListingFits l × AskedIn (listed s l .state) qs
+AskedIn s (toDeliver a ∷ qs) = (Bytes (s .lines) × Bytes (a .message)) × AskedIn (delivered s a .state) qs

@@ -173,7 +173,8 @@ pub record WritesExactly (r : Record) (out : List ℕ) (a : Answer) (left : List
   pub stays : (numberOf a ≡ 0 → ⊥) → left ≡ out
   pub past : RecordFits r → (w : Lawful r) → drop (w .type .size) left ≡ drop (w .type .size) out
 
-long-is : (r : Record) (w : Lawful r) → lengthBy (r .letter) ≡ w .type .size
+-- the type that it is lawful by has the length of its letter
+pub long-is : (r : Record) (w : Lawful r) → lengthBy (r .letter) ≡ w .type .size
 long-is r w = long-as r (w .type) (w .typed)
 
 -- a record that fits its types is written as long as its type says

@@ -9,6 +9,7 @@ use borrow.Fn.Kinds.{endedOf}
 use denote.Triple.Clauses.{AtExit}
 use denote.Ref.{now}
 use Rattle.answers.specs.declared.Answer.{Answer}
+use Rattle.records.specs.Fits.{RecordFits}
 use Rattle.records.specs.Packed.{recordBytes, recordOf}
 use Rattle.message.specs.declared.Reading.{Reading}
 use Rattle.message.specs.Reader.{readOf}
@@ -57,9 +58,10 @@ module _ (κs : Lfts 2) (a : ArgsD read-packed.signature κs) where
 module _ (κs : Lfts 2) (a : ArgsD write-packed.signature κs) where
   pub write-packed-one : (r r′ : Answer) (s s′ : AtExit (endedOf 2 write-packed-kinds.ps write-packed-kinds.r) κs)
       → write-packed-reads.Learnt κs a r s → write-packed-reads.Learnt κs a r′ s′ → (r ≡ r′) × (now (s .1 .0) ≡ now (s′ .1 .0))
-  write-packed-one r r′ s s′ h h′ = (h .0 ∙ sym (h′ .0), h .1 ∙ sym (h′ .1))
+  write-packed-one r r′ s s′ h h′ = (h .0 ∙ sym (h′ .0), h .1 .0 ∙ sym (h′ .1 .0))
 
   pub write-packed-says : (r : Answer) (s : AtExit (endedOf 2 write-packed-kinds.ps write-packed-kinds.r) κs)
       → write-packed-reads.Learnt κs a r s
-      ≡ ((r ≡ writeAnswer (recordOf (now (a .0))) (now (a .1 .0))) × (now (s .1 .0) ≡ writeOut (recordOf (now (a .0))) (now (a .1 .0))))
+      ≡ ((r ≡ writeAnswer (recordOf (now (a .0))) (now (a .1 .0))) ×
+      ((now (s .1 .0) ≡ writeOut (recordOf (now (a .0))) (now (a .1 .0))) × RecordFits (recordOf (now (a .0)))))
   write-packed-says r s = refl

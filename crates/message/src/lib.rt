@@ -10,10 +10,11 @@ use packing::M_LETTER;
 use packing::length_of;
 use packing::store;
 use packing::unpack;
-use records::LETTER;
 use records::RECORD;
 use records::Record;
+use records::packed::letter;
 ghost use mathlib.Core.Path.{_≡_};
+ghost use Rattle.records.specs.Fits.{RecordFits};
 ghost use Rattle.records.specs.Packed.{recordOf, recordBytes};
 ghost use Rattle.message.specs.Reader.{readOf};
 ghost use Rattle.message.specs.Writer.{writeAnswer, writeOut};
@@ -57,12 +58,13 @@ pub fn read(message: &[u8]) -> Reading
 }
 
 // Writes the message of the record that eighty bytes are at the front of out, and leaves the rest of out as it was.
-// Answers 0, 5 or 18; where not 0, out stays.
+// Answers 0, 5 or 18; where not 0, out stays. Any eighty bytes are a record that fits its types.
 pub fn write_packed(b: &[u8; RECORD], out: &mut [u8]) -> Answer
     ensures answer { λ a. ⌜ a ≡ writeAnswer (recordOf (now (b .entry))) (now (out .entry)) ⌝ }
     ensures left { λ a. ⌜ now (out .exit) ≡ writeOut (recordOf (now (b .entry))) (now (out .entry)) ⌝ }
+    ensures fits { λ a. ⌜ RecordFits (recordOf (now (b .entry))) ⌝ }
 {
-    let kind = kind_of(b[LETTER]);
+    let kind = kind_of(letter(b));
     if lawful(b, kind) {
         if length_of(kind) <= out.len() {
             store(out, b, kind);

@@ -8,14 +8,14 @@ use Prim.Native.Nat.{ℕ}
 use lib.ListN.{length, getD}
 use Rattle.octets.specs.Run.{all, Bytes}
 use Rattle.layout.specs.Values.{Values, roomOf, isZero, Typed, Sized}
-use Rattle.layout.specs.Tables.{Layout, tiles, look, written, lacked, allFrom, keptBy, lawfulBy, plainBy}
+use Rattle.layout.specs.Tables.{Layout, tiles, allNarrow, look, written, lacked, allFrom, keptBy, lawfulBy, plainBy}
 use Rattle.layout.specs.Carrying.{carried, runs}
 use Rattle.layout.proofs.Carried.{carries, runs-zero}
 use Rattle.records.specs.declared.Record.{Record}
 use Rattle.records.specs.Fits.{RecordFits}
 use Rattle.records.specs.Held.{holds, readBy, writeBy, kept, lawful}
 use Rattle.records.specs.Packed.{slots, packed, recordBytes, recordOf}
-use Rattle.records.proofs.Held.{fits-typed, read-values, read-letter, read-long, read-written, written-read}
+use Rattle.records.proofs.Held.{fits-typed, typed-fits, read-values, read-letter, read-long, read-typed, read-written, written-read}
 
 pub packed-tiles : tiles packed ≡ true
 unfolding tiles packed slots roomOf
@@ -30,6 +30,15 @@ packed-letter b = read-letter packed packed-tiles b
 pub packed-long : (b : List ℕ) → Sized (holds (recordOf b))
 unfolding recordOf
 packed-long b = read-long packed packed-tiles b
+
+packed-narrow : allNarrow (packed .entries) ≡ true
+unfolding packed slots roomOf
+packed-narrow = refl
+
+-- the record that bytes are fits its types
+pub packed-fits : (b : List ℕ) → Bytes b → RecordFits (recordOf b)
+unfolding recordOf
+packed-fits b g = typed-fits (recordOf b) (read-typed packed packed-tiles packed-narrow b g)
 
 packed-lawful : (r : Record) → lawful packed r ≡ true
 unfolding lawfulBy keptBy lacked packed slots holds

@@ -3,16 +3,21 @@
 -- call returns.
 -- Assumes nothing.
 use mathlib.Core.Path.{_≡_, refl, sym, _∙_}
+use Prim.Native.Nat.{ℕ}
 use contract.Lifetimes.{Lfts}
 use borrow.Fn.World.{ArgsD}
 use borrow.Fn.Kinds.{endedOf}
 use denote.Triple.Clauses.{AtExit}
 use denote.Ref.{now}
 use Rattle.records.specs.declared.Record.{Record}
+use Rattle.records.specs.Fits.{RecordFits}
 use Rattle.records.specs.Packed.{recordBytes, recordOf}
 use Rattle.records.proofs.packed.record as taken
 use Rattle.records.proofs.packed.record.Reads as taken-reads
 use Rattle.records.proofs.packed.record.Kinds as taken-kinds
+use Rattle.records.proofs.packed.letter as letter
+use Rattle.records.proofs.packed.letter.Reads as letter-reads
+use Rattle.records.proofs.packed.letter.Kinds as letter-kinds
 use Rattle.records.proofs.packed.put_record as put-record
 use Rattle.records.proofs.packed.put_record.Reads as put-record-reads
 use Rattle.records.proofs.packed.put_record.Kinds as put-record-kinds
@@ -25,6 +30,15 @@ module _ (κs : Lfts 1) (a : ArgsD taken.signature κs) where
   pub record-says : (r : Record) (s : AtExit (endedOf 1 taken-kinds.ps taken-kinds.r) κs)
       → taken-reads.Learnt κs a r s ≡ (r ≡ recordOf (now (a .0)))
   record-says r s = refl
+
+module _ (κs : Lfts 1) (a : ArgsD letter.signature κs) where
+  pub letter-one : (r r′ : ℕ) (s s′ : AtExit (endedOf 1 letter-kinds.ps letter-kinds.r) κs) → letter-reads.Learnt κs a r s
+      → letter-reads.Learnt κs a r′ s′ → r ≡ r′
+  letter-one r r′ s s′ h h′ = h .0 ∙ sym (h′ .0)
+
+  pub letter-says : (r : ℕ) (s : AtExit (endedOf 1 letter-kinds.ps letter-kinds.r) κs)
+      → letter-reads.Learnt κs a r s ≡ ((r ≡ recordOf (now (a .0)) .letter) × RecordFits (recordOf (now (a .0))))
+  letter-says r s = refl
 
 module _ (κs : Lfts 1) (a : ArgsD put-record.signature κs) where
   pub put-record-one : (r r′ : Unit) (s s′ : AtExit (endedOf 1 put-record-kinds.ps put-record-kinds.r) κs)

@@ -28,6 +28,7 @@ use octets::run::put_byte;
 ghost use mathlib.Core.Path.{_≡_};
 ghost use Prim.Native.Nat.{_≤_};
 ghost use lib.Seq.{sets};
+ghost use Rattle.records.specs.Fits.{RecordFits};
 ghost use Rattle.records.specs.Packed as W;
 
 // Control, price, size and condition, from a place in a record on.
@@ -87,6 +88,14 @@ pub fn record(b: &[u8; RECORD]) -> Record
     ensures { λ r. ⌜ r ≡ W.recordOf (now (b .entry)) ⌝ }
 {
     record_in(b)
+}
+
+// The letter of the record that bytes are. Bytes are bytes, so that this record fits its types.
+pub fn letter(b: &[u8]) -> u8
+    ensures letter { λ x. ⌜ x ≡ W.recordOf (now (b .entry)) .letter ⌝ }
+    ensures fits { λ x. ⌜ RecordFits (W.recordOf (now (b .entry))) ⌝ }
+{
+    byte(b, LETTER)
 }
 
 // The same fields, stored.

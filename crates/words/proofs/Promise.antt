@@ -3,16 +3,17 @@
 -- call returns.
 -- Assumes nothing.
 use mathlib.Core.Path.{_≡_, refl, sym, _∙_}
+use mathlib.Core.List.{List}
+use Prim.Native.Nat.{ℕ}
+use lib.ListN.{length}
 use contract.Lifetimes.{Lfts}
 use borrow.Fn.World.{ArgsD}
 use borrow.Fn.Kinds.{endedOf}
 use denote.Triple.Clauses.{AtExit}
 use denote.Ref.{now}
 use Rattle.counters.specs.declared.Counters.{Counters}
-use Rattle.words.specs.Words.{counterWords, countersOf, rowWords}
-use Rattle.words.proofs.counters as counters
+use Rattle.words.specs.Words.{counterCount, counterWords, countersOf, rowWords}
 use Rattle.words.proofs.counters.Reads as counters-reads
-use Rattle.words.proofs.counters.Kinds as counters-kinds
 use Rattle.words.proofs.put_counters as put-counters
 use Rattle.words.proofs.put_counters.Reads as put-counters-reads
 use Rattle.words.proofs.put_counters.Kinds as put-counters-kinds
@@ -20,15 +21,14 @@ use Rattle.words.proofs.put_row as put-row
 use Rattle.words.proofs.put_row.Reads as put-row-reads
 use Rattle.words.proofs.put_row.Kinds as put-row-kinds
 
-module _ (κs : Lfts 1) (a : ArgsD counters.signature κs) where
-  pub counters-one : (r r′ : Counters) (s s′ : AtExit (endedOf 1 counters-kinds.ps counters-kinds.r) κs)
-      → counters-reads.Learnt κs a r s → counters-reads.Learnt κs a r′ s′ → r ≡ r′
-  counters-one r r′ s s′ h h′ = h ∙ sym h′
+pub counters-one : (w w₁ w₂ : List ℕ) (r r′ : Counters) → counters-reads.Learnt tt (w, tt) r (w₁, tt)
+    → counters-reads.Learnt tt (w, tt) r′ (w₂, tt) → r ≡ r′
+counters-one w w₁ w₂ r r′ h h′ = h .0 ∙ sym (h′ .0)
 
-  -- what a caller is told, and nothing else
-  pub counters-says : (r : Counters) (s : AtExit (endedOf 1 counters-kinds.ps counters-kinds.r) κs)
-      → counters-reads.Learnt κs a r s ≡ (r ≡ countersOf (now (a .0)))
-  counters-says r s = refl
+-- what a caller is told, and nothing else
+pub counters-says : (w w₁ : List ℕ) (r : Counters)
+    → counters-reads.Learnt tt (w, tt) r (w₁, tt) ≡ ((r ≡ countersOf w) × (length w ≡ counterCount))
+counters-says w w₁ r = refl
 
 module _ (κs : Lfts 1) (a : ArgsD put-counters.signature κs) where
   pub put-counters-one : (r r′ : Unit) (s s′ : AtExit (endedOf 1 put-counters-kinds.ps put-counters-kinds.r) κs)

@@ -8,6 +8,7 @@ use show::Net;
 use show::RowShown;
 ghost use mathlib.Core.Path.{_≡_};
 ghost use mathlib.Core.Bool.{cond};
+ghost use lib.ListN.{length};
 ghost use Rattle.words.specs.Words as W;
 
 // How many words the counters are, and how many a row is.
@@ -15,9 +16,10 @@ pub const COUNTERS: usize = 5;
 
 pub const ROW: usize = 15;
 
-// The counters that the words are.
-pub fn counters(w: &[u64; COUNTERS]) -> Counters
-    ensures { λ c. ⌜ c ≡ W.countersOf (now (w .entry)) ⌝ }
+// The counters that the words are. There are as many words as the counters have.
+pub fn counters(w: [u64; COUNTERS]) -> Counters
+    ensures counters { λ c. ⌜ c ≡ W.countersOf w ⌝ }
+    ensures count { λ c. ⌜ length w ≡ W.counterCount ⌝ }
 {
     Counters {
         wanted: w[0],

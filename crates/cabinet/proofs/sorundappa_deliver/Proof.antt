@@ -28,8 +28,14 @@ returns c =
     let put = c .before in
     let called = put .before .before .before .before .before .before .before in
     let read = called .before .before .before in
-    deliver-said _ _ (read .counters .ensures) _ _ _
-    (put .put-counters .ensures) (c .told .ensures) _ (called .deliver .ensures)
+    let known = read .before .before in (
+      deliver-said _ _ (read .counters .ensures .0) _ _ _ (put .put-counters .ensures) (c .told .ensures) _ (called .deliver .ensures),
+      record {
+        count = read .counters .ensures .1;
+        lent = λ i. known .before .slice-known2 .given i .fits;
+        brought = λ i. known .shared-slice-known .given i .fits;
+      },
+    )
 
 pub sorundappa-deliver-spec : {M : Type 1} → statement M
 sorundappa-deliver-spec =

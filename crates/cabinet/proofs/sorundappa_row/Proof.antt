@@ -21,7 +21,7 @@ returns : tie.Need-returns
 returns c =
     let called = c .before .before .before .before in
     let read = called .before in
-    row-said _ _ (read .counters .ensures) _ _ _ _
+    row-said _ _ (read .counters .ensures .0) _ _ _ _
     (called .row .ensures) (c .before .put-row .ensures) (c .told .ensures)
 
 pub sorundappa-row-spec : {M : Type 1} → statement M

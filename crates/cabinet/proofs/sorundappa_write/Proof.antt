@@ -18,7 +18,7 @@ same-length c = search needs
 returns : tie.Need-returns
 returns c =
     let h = c .before .before .before .write-packed .ensures in
-    (c .told .ensures ∙ ap numberOf (h .0), h .1)
+    (c .told .ensures ∙ ap numberOf (h .0), (h .1 .0, h .1 .1))
 
 pub sorundappa-write-spec : {M : Type 1} → statement M
 sorundappa-write-spec =

@@ -3,19 +3,26 @@
 use mathlib.Core.Path.{_≡_, ap, sym, _∙_}
 use native.Mathlib.Omega.{arith}
 use Rattle.kinds.specs.Kinds.{kindOf}
+use Rattle.records.specs.Fits.{RecordFits}
 use Rattle.records.specs.Packed.{recordOf}
-use Rattle.records.proofs.Again.{packed-letter, packed-long}
+use Rattle.records.proofs.Again.{packed-long}
 use Rattle.message.proofs.Written.{written-done, written-short, written-broken}
 use borrow.Author.Needs.{needs}
 use Rattle.message.proofs.write_packed.Statement.{statement}
 use Rattle.message.proofs.write_packed.Tie as tie
 
--- the type is that of the record's letter
-typed : (c : tie.After-kind-of) → c .kind-of .result ≡ kindOf (recordOf (c .before .before .before .args .b .now) .letter)
-typed c = c .kind-of .ensures ∙ ap kindOf (sym (packed-letter (c .before .before .before .args .b .now)))
+abbrev start : tie.After-kind-of → tie.Start
+start c = c .before .before .before .before
 
-element-copy-out-kind-of : tie.Need-element-copy-out-kind-of
-element-copy-out-kind-of c = search needs
+-- the type is that of the record's letter
+typed : (c : tie.After-kind-of) → c .kind-of .result ≡ kindOf (recordOf (start c .args .b .now) .letter)
+typed c = c .kind-of .ensures ∙ ap kindOf (c .before .letter .ensures .0)
+
+fits : (c : tie.After-kind-of) → RecordFits (recordOf (start c .args .b .now))
+fits c = c .before .letter .ensures .1
+
+letter-requires : tie.Need-letter-requires
+letter-requires c κs = search needs
 
 kind-of-requires : tie.Need-kind-of-requires
 kind-of-requires c κs = search needs
@@ -37,36 +44,38 @@ returns c =
     let room = c .before .before .before .before .before in
     let test = room .before .before in
     let kind = test .before .before in
-    let a = kind .before .before .before .args in
+    let a = start kind .args in
     let r = recordOf (a .b .now) in
     let held = sym (test .before .lawful .ensures) ∙ test .if1 .taken in
     let long = room .before .length-of .ensures in
     let w =
     written-done (kind .kind-of .result) r (a .out .now) (typed kind) (packed-long (a .b .now)) held (rw (← long) (room .if2 .taken)) in
-    (w .0, c .before .before .store .ensures ∙ w .1)
+    (w .0, (c .before .before .store .ensures ∙ w .1, fits kind))
 
 returns-2 : tie.Need-returns-2
 returns-2 c =
     let test = c .before .before in
     let kind = test .before .before in
-    let a = kind .before .before .before .args in
+    let a = start kind .args in
     let r = recordOf (a .b .now) in
     let held = sym (test .before .lawful .ensures) ∙ test .if1 .taken in
     let long = c .before .length-of .ensures in
-    written-short (kind .kind-of .result) r (a .out .now) (typed kind) held (rw (← long) (omega (arith, c .if2 .left)))
+    let w = written-short (kind .kind-of .result) r (a .out .now) (typed kind) held (rw (← long) (omega (arith, c .if2 .left))) in
+    (w .0, (w .1, fits kind))
 
 returns-3 : tie.Need-returns-3
 returns-3 c =
     let kind = c .before .before in
-    let a = kind .before .before .before .args in
+    let a = start kind .args in
     let r = recordOf (a .b .now) in
-    written-broken (kind .kind-of .result) r (a .out .now) (typed kind) (sym (c .before .lawful .ensures) ∙ c .if1 .left)
+    let w = written-broken (kind .kind-of .result) r (a .out .now) (typed kind) (sym (c .before .lawful .ensures) ∙ c .if1 .left) in
+    (w .0, (w .1, fits kind))
 
 pub write-packed-spec : {M : Type 1} → statement M
 write-packed-spec =
     tie.close
     (tie.spec
-    element-copy-out-kind-of
+    letter-requires
     kind-of-requires
     lawful-requires
     length-of-requires
