@@ -1,3 +1,4 @@
 pub mod PDays
+pub mod PSheets
 pub mod DayW
 pub mod Premises
