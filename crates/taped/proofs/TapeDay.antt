@@ -39,10 +39,10 @@ asked-is s [] = refl
 asked-is s (Lists l ∷ es) = asked-is (acted s (Lists l)) es
 asked-is s (Delivers k a ∷ es) = asked-is (acted s (Delivers k a)) es
 
-bytes-before : (a b : List ℕ) → Bytes (a ++ b) → Bytes a
+pub bytes-before : (a b : List ℕ) → Bytes (a ++ b) → Bytes a
 bytes-before a b h = subst Bytes (take-append-seam a b) (bytes-take (a ++ b) (length a) h)
 
-asked-fits : (es : List Entry) → EntriesFit es → Bytes (tapeOf es) → AskedFit (askedIn es)
+pub asked-fits : (es : List Entry) → EntriesFit es → Bytes (tapeOf es) → AskedFit (askedIn es)
 unfolding entryBytes
 asked-fits [] f b = tt
 asked-fits (Lists l ∷ es) f b =
@@ -55,7 +55,7 @@ asked-fits (Delivers k a ∷ es) f b = (
 
 -- ---- the wall of a book that is the clerk's
 
-map-map : {A B C : Type 0} (f : A → B) (g : B → C) (xs : List A) → map g (map f xs) ≡ map (λ x. g (f x)) xs
+pub map-map : {A B C : Type 0} (f : A → B) (g : B → C) (xs : List A) → map g (map f xs) ≡ map (λ x. g (f x)) xs
 map-map f g [] = refl
 map-map {C = C} f g (x ∷ xs) = ap (λ (ys : List C). g (f x) ∷ ys) (map-map f g xs)
 
