@@ -46,10 +46,10 @@ module _ (s : State) (e : Ending) where
   unfolding lineOf wallLines
   header-is k h = rw h
 
-  pub row-is : (k : ℕ) → (k ≡ 0 → ⊥) → k ≤ length (rowsIn s) → rowText (shownRow s (rowIn (s .rows) (k - 1))) ≡ lineOf s e k
+  row-there : (k : ℕ) → (k ≡ 0 → ⊥) → k ≤ length (rowsIn s) → rowText (shownRow s (rowIn (s .rows) (k - 1))) ≡ lineOf s e k
   unfolding lineOf wallLines
-  row-is zero z h = absurd (z refl)
-  row-is (suc i) z h =
+  row-there zero z h = absurd (z refl)
+  row-there (suc i) z h =
       let l : i < length (rowLines s) = omega (arith, rows-many) in
       let j : i < length (rowsIn s) = omega arith in
       let m : i < min (s .counters .rows) (rowLimit (length (s .rows))) = omega (arith, used-rows-length (s .rows) (s .counters .rows)) in
@@ -58,6 +58,9 @@ module _ (s : State) (e : Ending) where
       ∙ ap (λ (w : Row). rowText (shownRow s w)) (sym (row-in (s .rows) (s .counters .rows) i m))
       ∙ sym (map-get (λ (w : Row). rowText (shownRow s w)) (rowsIn s) i noRow [] j)
       ∙ sym (List·getD-append (rowLines s) (closed ∷ endLines e) [] i l)
+
+  pub row-is : (k i : ℕ) → i ≡ k - 1 → (k ≡ 0 → ⊥) → k ≤ length (rowsIn s) → rowText (shownRow s (rowIn (s .rows) i)) ≡ lineOf s e k
+  row-is k i q z h = ap (λ (x : ℕ). rowText (shownRow s (rowIn (s .rows) x))) q ∙ row-there k z h
 
   -- behind the rows
   behind : (j : ℕ) → lineOf s e (suc (length (rowsIn s) + j)) ≡ getD (closed ∷ endLines e) j []

@@ -1,6 +1,7 @@
 // The printed wall as a whole: its lines one after the other, and the text that they are.
 use bounds::lesser;
 use counters::Counters;
+use octets::run::left;
 use tape::Stop;
 ghost use mathlib.Core.Path.{_≡_};
 ghost use Prim.Native.Nat.{min};
@@ -79,7 +80,7 @@ pub fn line(
         return print::header(out);
     }
     if k <= n {
-        return row_line(c, rows, lines, k - 1, out);
+        return row_line(c, rows, lines, left(k, 1), out);
     }
     if k == n + 1 {
         return print::closing(c.taken, c.wanted, out);

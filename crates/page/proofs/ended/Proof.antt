@@ -17,7 +17,7 @@ enum-told-3 : tie.Need-enum-told-3
 enum-told-3 c = search needs
 
 returns : tie.Need-returns
-returns c = search needs
+returns c = sym (ap (λ (w : Stop). endingAt w (c .before .before .args .at)) (c .enum-told .given .1))
 
 returns-2 : tie.Need-returns-2
 returns-2 c = sym (ap (λ (w : Stop). endingAt w (c .before .before .args .at)) (c .enum-told2 .given .1))

@@ -22,8 +22,8 @@ returns c =
     let s = c .before .before .before .before .before .before .before .before .before in
     as-line _ _ _ _ _ (header-is (lent (s .args .c) (s .args .rows .now) (s .args .lines .now)) (s .args .ending) (s .args .k) (c .before .before .before .before .if1 .taken)) (c .before .before .header .ensures)
 
-sub-row-line : tie.Need-sub-row-line
-sub-row-line c = search needs
+left-requires : tie.Need-left-requires
+left-requires c κs = search needs
 
 row-line-requires : tie.Need-row-line-requires
 row-line-requires c κs = search needs
@@ -33,12 +33,13 @@ same-length-2 c = search needs
 
 returns-2 : tie.Need-returns-2
 returns-2 c =
-    let asked = c .before .before .before .before in
+    let found = c .before .before .before .before in
+    let asked = found .before in
     let counted = asked .before .before in
     let s = counted .before .before .before .before in
     as-line _ _ _ _ _
-    (row-is (lent (s .args .c) (s .args .rows .now) (s .args .lines .now)) (s .args .ending) (s .args .k) (asked .before .if1 .left)
-    (omega (arith, asked .if2 .taken, counted .printed .ensures)))
+    (row-is (lent (s .args .c) (s .args .rows .now) (s .args .lines .now)) (s .args .ending) (s .args .k) (found .left .result)
+    (found .left .ensures) (asked .before .if1 .left) (omega (arith, asked .if2 .taken, counted .printed .ensures)))
     (c .before .before .row-line .ensures)
 
 add-if3 : tie.Need-add-if3
@@ -94,7 +95,7 @@ line-spec =
     header-requires
     same-length
     returns
-    sub-row-line
+    left-requires
     row-line-requires
     same-length-2
     returns-2
