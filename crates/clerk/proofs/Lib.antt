@@ -1,3 +1,4 @@
+pub mod ByHand
 pub mod Passing
 pub mod Steps
 pub mod Lent

@@ -15,7 +15,10 @@ use Rattle.tape.specs.declared.Played.{Played}
 use Rattle.book.specs.State.{State}
 use Rattle.tape.specs.Playing.{Play, came, played}
 use Rattle.tape.proofs.Pieces.{used-within}
-use Rattle.feed.specs.Feeding.{leftOver, fed}
+use Rattle.tape.specs.declared.Stop.{Stop}
+use Rattle.feed.specs.declared.Fed.{Fed}
+use Rattle.feed.specs.Feeding.{Feeding, cameOf, leftOver, fed}
+use Rattle.feed.specs.Reading.{wrapped, Standing, gone}
 
 -- the first n of a list, or all where it has fewer
 pub first-of : (n : ℕ) (m : List ℕ) → take (min n (length m)) m ≡ take n m
@@ -71,3 +74,21 @@ module _ (s : State) (n : ℕ) (m : List ℕ) (k : ℕ) (is : k ≡ min n (lengt
       parts : (y : Play) (i : ℕ) (o : List ℕ) → y ≡ fed s n m .play → i ≡ fed s n m .held → o ≡ fed s n m .piece
           → record { play = y; held = i; piece = o } ≡ fed s n m
       parts y i o f g q = rw (f, g, q)
+
+-- what a call of `feed` came to, as the reading then stands
+pub gone-is : (f : Fed) (t : State) (left : List ℕ) (at : ℕ) (s : State) (n : ℕ) (piece : List ℕ) → cameOf f t left ≡ fed s n piece
+    → (w : ℕ) → w ≡ wrapped (at + f .used)
+    → record { state = t; held = f .held; at = w; stop = f .stop; piece = left } ≡ gone at s n piece
+unfolding gone
+gone-is f t left at s n piece e w h =
+    parts t (f .held) w (f .stop) left
+    (ap (λ (x : Feeding). x .play .state) e)
+    (ap (λ (x : Feeding). x .held) e)
+    (h ∙ ap (λ (x : Feeding). wrapped (at + x .play .used)) e)
+    (ap (λ (x : Feeding). x .play .stop) e)
+    (ap (λ (x : Feeding). x .piece) e)
+  where
+    parts : (y : State) (i j : ℕ) (k : Stop) (o : List ℕ) → y ≡ gone at s n piece .state → i ≡ gone at s n piece .held
+        → j ≡ gone at s n piece .at → k ≡ gone at s n piece .stop → o ≡ gone at s n piece .piece
+        → record { state = y; held = i; at = j; stop = k; piece = o } ≡ gone at s n piece
+    parts y i j k o f g q u v = rw (f, g, q, u, v)

@@ -1,7 +1,8 @@
 -- A piece read behind what is held, and fed, is one step of the play by pieces: nothing is lost between two pieces and nothing is
 -- played twice.
 -- Assumes nothing.
-use Prim.Native.Nat.{ℕ, _+_, _≤_}
+use Prim.Native.Nat.{ℕ, _+_, _^_, _≤_}
+use native.Mathlib.Nat.{mod-add-mod}
 use mathlib.Core.Path.{_≡_, ap, _∙_}
 use mathlib.Core.List.{List, _++_}
 use native.Mathlib.Omega.{arith}
@@ -13,6 +14,7 @@ use Rattle.book.specs.State.{State}
 use Rattle.tape.specs.Playing.{played, Holding, feed}
 use Rattle.tape.proofs.Pieces.{kept-short}
 use Rattle.feed.specs.Feeding.{leftOver, fed}
+use Rattle.feed.specs.Reading.{wrapped, gone, StandsAt}
 
 -- what is held stands at the front of the piece afterwards
 pub front-held : (s : State) (n : ℕ) (piece : List ℕ) → take (fed s n piece .held) (fed s n piece .piece) ≡ leftOver s (take n piece)
@@ -39,7 +41,29 @@ feeds-on h new n piece e =
       front = front-held (h .so .state) n piece ∙ rw e;
     }
 
+held-is : (h : Holding) (new : List ℕ) (n : ℕ) (piece : List ℕ) → take n piece ≡ h .left ++ new
+    → fed (h .so .state) n piece .held ≡ length (feed h new .left)
+unfolding fed feed
+held-is h new n piece e = rw e
+
 -- unless the tape stops for good, what is held is less than the longest entry
 pub held-short : (s : State) (n : ℕ) (piece : List ℕ) → (fed s n piece .play .stop ≡ NoKind → ⊥) → fed s n piece .held ≤ 71
 unfolding fed
 held-short s n piece h = omega (arith, kept-short s (take n piece) h, length-drop (played s (take n piece) .used) (take n piece))
+
+-- where the first n bytes are what was left over before, and then new ones: the reading stands then where feeding the new ones leads
+pub goes-on : (h : Holding) (new : List ℕ) (at n : ℕ) (piece : List ℕ) → take n piece ≡ h .left ++ new → at ≡ wrapped (h .so .used)
+    → StandsAt (feed h new) (gone at (h .so .state) n piece)
+unfolding gone
+goes-on h new at n piece e w =
+    let f = feeds-on h new n piece e in
+    record {
+      state = f .state;
+      held = held-is h new n piece e;
+      at =
+          ap (λ (x : ℕ). wrapped (x + fed (h .so .state) n piece .play .used)) w
+          ∙ mod-add-mod (h .so .used) (2 ^ 64) (fed (h .so .state) n piece .play .used)
+          ∙ ap wrapped (f .used);
+      stop = f .stop;
+      front = f .front;
+    }

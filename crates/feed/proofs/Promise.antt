@@ -1,4 +1,4 @@
--- The contract of `feed` leaves one answer and one content for each lent byte.
+-- The contracts of `feed`, `begin` and `go_on` leave one answer and one content for each lent byte.
 -- Assumes nothing.
 use Prim.Native.Nat.{ℕ}
 use mathlib.Core.Path.{_≡_, refl, ap, sym, _∙_}
@@ -13,9 +13,15 @@ use Rattle.book.specs.State.{State, lent}
 use Rattle.tape.specs.declared.Stop.{Stop}
 use Rattle.feed.specs.declared.Fed.{Fed}
 use Rattle.feed.specs.Feeding.{Feeding, cameOf, fed}
+use Rattle.feed.specs.declared.reading.Reading.{Reading}
+use Rattle.feed.specs.Reading.{nothingRead, Standing, standing, gone}
 use Rattle.feed.proofs.feed as feed
 use Rattle.feed.proofs.feed.Reads as feed-reads
 use Rattle.feed.proofs.feed.Kinds as feed-kinds
+use Rattle.feed.proofs.reading.begin.Reads as begin-reads
+use Rattle.feed.proofs.reading.go_on as go-on
+use Rattle.feed.proofs.reading.go_on.Reads as go-on-reads
+use Rattle.feed.proofs.reading.go_on.Kinds as go-on-kinds
 
 -- two calls that came to the same told the same
 told-same : (r r′ : Fed) (s s′ : State) (piece piece′ : List ℕ) (f : Feeding) → cameOf r s piece ≡ f → cameOf r′ s′ piece′ ≡ f
@@ -62,3 +68,51 @@ module _ (κs : Lfts (feed.signature .lifetimes)) (a : ArgsD feed.signature κs)
   pub feed-says : (r : Fed) (s : AtExit (endedOf (feed.signature .lifetimes) feed-kinds.ps feed-kinds.r) κs)
       → feed-reads.Learnt κs a r s ≡ (feedLeft r s ≡ fed feedFrom feedCount feedPiece)
   feed-says r s = refl
+
+-- ---- a tape that is being read
+
+pub begin-one : (r r′ : Reading) → begin-reads.Learnt tt tt r tt → begin-reads.Learnt tt tt r′ tt → r ≡ r′
+begin-one r r′ h h′ = h ∙ sym h′
+
+pub begin-says : (r : Reading) → begin-reads.Learnt tt tt r tt ≡ (r ≡ nothingRead)
+begin-says r = refl
+
+abbrev pub GoLfts : Type 0
+GoLfts = Lfts (go-on.signature .lifetimes)
+
+abbrev pub GoArgs : GoLfts → Type 0
+GoArgs κs = ArgsD go-on.signature κs
+
+abbrev pub GoExit : GoLfts → Type 0
+GoExit κs = AtExit (endedOf (go-on.signature .lifetimes) go-on-kinds.ps go-on-kinds.r) κs
+
+module _ (κs : GoLfts) (a : GoArgs κs) where
+  -- how the reading stands before it, how many bytes of the piece are played, and how it stands after
+  abbrev pub goFrom : Standing
+  goFrom = standing (a .0) (lent (a .0 .counters) (now (a .1 .0)) (now (a .1 .1 .0))) (now (a .1 .1 .1 .0))
+
+  abbrev pub goCount : ℕ
+  goCount = a .1 .1 .1 .1 .0
+
+  abbrev pub goLeft : Reading → GoExit κs → Standing
+  goLeft r x = standing r (lent (r .counters) (now (x .1 .0)) (now (x .1 .1 .0))) (now (x .1 .1 .1 .0))
+
+  pub go-on-one : (r r′ : Reading) (x x′ : GoExit κs) → go-on-reads.Learnt κs a r x → go-on-reads.Learnt κs a r′ x′
+      → (r ≡ r′) × (goLeft r x ≡ goLeft r′ x′)
+  go-on-one r r′ x x′ h h′ =
+      let e : goLeft r x ≡ goLeft r′ x′ = h ∙ sym h′ in (
+        same (r .counters) (r .held) (r .at) (r .stop)
+            (ap (λ (y : Standing). y .state .counters) e)
+            (ap (λ (y : Standing). y .held) e)
+            (ap (λ (y : Standing). y .at) e)
+            (ap (λ (y : Standing). y .stop) e),
+        e,
+      )
+    where
+      same : (c : Counters) (n k : ℕ) (w : Stop) → c ≡ r′ .counters → n ≡ r′ .held → k ≡ r′ .at → w ≡ r′ .stop
+          → record { counters = c; held = n; at = k; stop = w } ≡ r′
+      same c n k w e f g q = rw (e, f, g, q)
+
+  pub go-on-says : (r : Reading) (x : GoExit κs)
+      → go-on-reads.Learnt κs a r x ≡ (goLeft r x ≡ gone (goFrom .at) (goFrom .state) goCount (goFrom .piece))
+  go-on-says r x = refl

@@ -1,5 +1,7 @@
 // A tape of any length, played in pieces as they come: what a piece leaves over is moved to its front, and the next is
 // read behind it.
+pub mod reading;
+
 use bounds::lesser;
 use counters::Counters;
 use octets::run::to_front;

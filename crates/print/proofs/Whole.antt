@@ -29,7 +29,7 @@ use Rattle.print.proofs.stops.Kinds as stops-kinds
 
 -- ---- a buffer of any length
 
-sets-behind : (y : ℕ) (xs l : List ℕ) (at : ℕ) → sets (y ∷ l) (suc at) xs ≡ y ∷ sets l at xs
+pub sets-behind : (y : ℕ) (xs l : List ℕ) (at : ℕ) → sets (y ∷ l) (suc at) xs ≡ y ∷ sets l at xs
 sets-behind y [] l at = refl
 sets-behind y (x ∷ xs) l at = sets-behind y xs (set l at x) (suc at)
 

@@ -1,3 +1,4 @@
 pub mod Codes
 pub mod Promise
 pub mod Events
+pub mod ByHand

@@ -18,7 +18,7 @@ size-of : (t : Bool) (x y n : ℕ) → x < n → y < n → mag (cond t (negsuc x
 size-of true x y n hx hy = hx
 size-of false x y n hx hy = hy
 
-below : (p q : ℕ) → p < 2 ^ 32 → q < 2 ^ 32 → mag (pos p -ℤ pos q) < 2 ^ 63
+pub below : (p q : ℕ) → p < 2 ^ 32 → q < 2 ^ 32 → mag (pos p -ℤ pos q) < 2 ^ 63
 below p zero hp hq = omega arith
 below p (suc q) hp hq = size-of (ltb p (suc q)) (suc q - suc p) (p - suc q) (2 ^ 63) (omega arith) (omega arith)
 

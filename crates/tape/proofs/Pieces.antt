@@ -173,7 +173,8 @@ no-kind-ends s a b e =
 
 -- ---- pieces
 
-feed-one : (s : State) (a piece : List ℕ) → feed (held s a) piece ≡ held s (a ++ piece)
+-- one piece more
+pub feed-one : (s : State) (a piece : List ℕ) → feed (held s a) piece ≡ held s (a ++ piece)
 unfolding feed
 feed-one s a piece = rw (play-append s a piece, ← drop-drop, drop-append-le (played s a .used) a piece (used-within s a))
 
@@ -183,9 +184,11 @@ feed-from s a [] = rw (append-nil a)
 feed-from s a (piece ∷ ps) =
     ap (λ (h : Holding). feedAll h ps) (feed-one s a piece) ∙ feed-from s (a ++ piece) ps ∙ ap (held s) (append-assoc a piece (joined ps))
 
+-- before the first piece
+pub begun-is : (s : State) → begun s ≡ held s []
+unfolding played headOf
+begun-is s = rw (play-stops s [] Ended refl)
+
 -- any way of cutting a tape into pieces comes to the same book, the same bytes used, the same stop and the same bytes left over
 pub pieces : (s : State) (ps : List (List ℕ)) → feedAll (begun s) ps ≡ held s (joined ps)
-unfolding played headOf
-pieces s ps =
-    let e : begun s ≡ held s [] = rw (play-stops s [] Ended refl) in
-    ap (λ (h : Holding). feedAll h ps) e ∙ feed-from s [] ps
+pieces s ps = ap (λ (h : Holding). feedAll h ps) (begun-is s) ∙ feed-from s [] ps

@@ -2,7 +2,7 @@
 -- Assumes nothing.
 use mathlib.Core.Path.{_≡_, refl, ap, sym, _∙_}
 use mathlib.Core.Bool.{Bool, true, false}
-use mathlib.Core.List.{List, [], _∷_, _++_, append-assoc}
+use mathlib.Core.List.{List, [], _∷_, _++_, append-nil, append-assoc}
 use Prim.Native.Nat.{ℕ, zero, suc, _+_, _≤_, _<_, _^_}
 use native.Mathlib.Omega.{arith}
 use borrow.Author.Tests.{eqb-true, eqb-false, ne-eqb}
@@ -103,10 +103,10 @@ entry-head (Delivers k a) more z = message-head k (a .number) (a .message) (z .0
 bytes-drop : (b : List ℕ) (n : ℕ) → Bytes b → Bytes (drop n b)
 bytes-drop b n h i = rw getD-drop (h (n + i))
 
-bytes-behind : (a b : List ℕ) → Bytes (a ++ b) → Bytes b
+pub bytes-behind : (a b : List ℕ) → Bytes (a ++ b) → Bytes b
 bytes-behind a b h i = rw getD-append-add at (h (length a + i))
 
-bytes-take : (b : List ℕ) (n : ℕ) → Bytes b → Bytes (take n b)
+pub bytes-take : (b : List ℕ) (n : ℕ) → Bytes b → Bytes (take n b)
 bytes-take [] zero h i = h i
 bytes-take [] (suc n) h i = h i
 bytes-take (x ∷ b) zero h i = lit< tt
@@ -312,3 +312,15 @@ pub play-split : (s : State) (b : List ℕ) (es : List Entry) (rest : List ℕ) 
 play-split s b es rest h t =
     let g : Bytes (tapeOf es ++ rest) = λ i. rw (t .bytes) at (h i) in
     ap (played s) (t .bytes) ∙ play-entries s es rest (t .each) (ends-stops rest (bytes-behind (tapeOf es) rest g) (t .ends))
+
+some-bytes : (e : Entry) → length (entryBytes e) ≡ 0 → ⊥
+unfolding entryBytes
+some-bytes (Lists l) q = omega arith
+some-bytes (Delivers k a) q = omega arith
+
+-- entries and nothing behind them
+pub whole-tape : (es : List Entry) → EntriesFit es → Tape (tapeOf es) es []
+whole-tape es f = record { bytes = sym (append-nil (tapeOf es)); each = f; ends = λ e more z q. none e more q }
+  where
+    none : (e : Entry) (more : List ℕ) → [] ≡ entryBytes e ++ more → ⊥
+    none e more q = some-bytes e (omega (arith, ap length q, length-append (entryBytes e) more))

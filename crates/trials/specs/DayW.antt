@@ -7,7 +7,16 @@ use Rattle.tape.specs.Entries as Entries
 use Rattle.tape.specs.Playing as Playing
 use Rattle.tape.specs.Entries.{Entry, Lists, Delivers, tapeOf}
 use Rattle.tape.specs.Playing.{Play, played}
-use Rattle.trials.specs.Days.{abcd, w, dayOf, freshRooms, bookShows}
+use Rattle.decimal.specs.Letters.{letters}
+use Rattle.decimal.specs.Decimal as Decimal
+use Rattle.decimal.specs.Amount as Amount
+use Rattle.print.specs.Texts as Texts
+use Rattle.page.specs.declared.Ending.the-variants.{Complete}
+use Rattle.clerk.specs.Clerk.{clerkSheet}
+use Rattle.clerk.specs.Arrivals.{upto}
+use Rattle.taped.specs.ClerksWall as ClerksWall
+use Rattle.taped.specs.ClerksWall.{clerkWall}
+use Rattle.trials.specs.Days.{abcd, w, alone, dayOf, freshRooms, bookShows, clerkShows}
 
 -- the listing and the six messages, each under its number; the kinds are S T T T X C
 unfoldable pub entriesW : List Entry
@@ -28,3 +37,17 @@ tapeW = tapeOf entriesW
 unfoldable pub playW : Play
 unfolding tapeW Entries.bodyLength Entries.headOf Entries.entryOf Playing.acted Playing.playSome Playing.played
 playW = played freshRooms tapeW
+
+-- ---- the wall of W
+
+-- the wall that the clerk prints of it, in the program's room: 64 rows and 1,024 lines
+unfoldable pub wallW : List ℕ
+unfolding clerkShows ClerksWall.clerkWall Texts.headerText Texts.rowText Texts.closingText Amount.amountText Decimal.digitCount
+    Decimal.lowest Decimal.decimal
+wallW = clerkWall (clerkSheet 64 (alone 250000)) 1024 (upto (dayOf w) 6) Complete
+
+-- as document 01 prints it
+abbrev pub printedW : List ℕ
+printedW =
+    letters
+    "SYMBOL LAST HIGH LOW NET VOLUME TRADES CONSOL\nABCD 25.2500 25.2500 25.2500 +0.2500 170 2 600\nTAKEN 6 REFUSED 0 WANTED 7\n"

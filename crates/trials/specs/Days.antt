@@ -2,12 +2,12 @@
 -- shows then. The table is worked twice: from the book's promises, in lent rooms whose bytes are all 35 at first, and from the clerk's
 -- definitions. The numbers are document 01's; the days without one tell apart what book and clerk share, where both could be wrong.
 -- Assumes nothing.
-use Prim.Native.Nat.{ℕ, _*_, _-_}
+use Prim.Native.Nat.{ℕ, zero, suc, _*_, _-_}
 use mathlib.Core.Path.{_≡_}
 use mathlib.Core.List.{List, [], _∷_, _++_, map}
 use mathlib.Core.Bool.{Bool, true, false}
 use lib.IntN.{pos, negsuc}
-use lib.ListN.{getD, replicate}
+use lib.ListN.{getD, replicate, take}
 use Rattle.numbers.specs.Number.{digits}
 use Rattle.lines.specs.Lines.{lineLimit}
 use Rattle.rows.specs.Rows.{rowLimit}
@@ -76,16 +76,26 @@ abbrev pub plain : List ℕ
 plain = codes 64 32 32 32
 
 -- control, price, size and condition
+abbrev pub saleUnder : List ℕ → ℕ → ℕ → List ℕ → List ℕ
+saleUnder key price size condition = key ++ (digits 4 price ++ (digits 4 size ++ condition))
+
 abbrev pub sale : ℕ → ℕ → ℕ → List ℕ → List ℕ
-sale k price size condition = control k ++ (digits 4 price ++ (digits 4 size ++ condition))
+sale k price size condition = saleUnder (control k) price size condition
 
--- a message that came at k thousand milliseconds
+-- a message that came at a millisecond, and one that came at k thousand of them
+abbrev pub eventAt : ℕ → ℕ → List ℕ
+eventAt time e = digits 4 time ++ (83 ∷ e ∷ [])
+
 abbrev pub event : ℕ → ℕ → List ℕ
-event k e = digits 4 (k * 1000) ++ (83 ∷ e ∷ [])
+event k e = eventAt (k * 1000) e
 
--- T and X of a symbol, by letter, centre, what they say of the trade, and the consolidated volume; class Q
+-- T and X of a symbol: time, letter, centre, class, what they say of the trade, and the consolidated volume
+abbrev pub reportAt : List ℕ → ℕ → ℕ → ℕ → ℕ → List ℕ → ℕ → List ℕ
+reportAt symbol time letter centre class s volume = digits 4 time ++ (letter ∷ centre ∷ symbol ++ (class ∷ s ++ digits 8 volume))
+
+-- of class Q
 abbrev pub reportFor : List ℕ → ℕ → ℕ → ℕ → List ℕ → ℕ → List ℕ
-reportFor symbol k letter centre s volume = digits 4 (k * 1000) ++ (letter ∷ centre ∷ symbol ++ (81 ∷ s ++ digits 8 volume))
+reportFor symbol k letter centre s volume = reportAt symbol (k * 1000) letter centre 81 s volume
 
 abbrev pub tradeFor : List ℕ → ℕ → ℕ → List ℕ → ℕ → List ℕ
 tradeFor symbol k centre s volume = reportFor symbol k 84 centre s volume
@@ -93,10 +103,14 @@ tradeFor symbol k centre s volume = reportFor symbol k 84 centre s volume
 abbrev pub cancelFor : List ℕ → ℕ → ℕ → List ℕ → ℕ → List ℕ
 cancelFor symbol k centre s volume = reportFor symbol k 88 centre s volume
 
--- J of a symbol: high, low, a close of 0, and the consolidated volume
+-- J of a symbol: time, high, low, close, and the consolidated volume; class Q
+abbrev pub summaryAt : List ℕ → ℕ → ℕ → ℕ → ℕ → ℕ → List ℕ
+summaryAt symbol time high low close volume =
+    digits 4 time ++ (74 ∷ symbol ++ (81 ∷ digits 4 high ++ (digits 4 low ++ (digits 4 close ++ digits 8 volume))))
+
+-- with a close of 0
 abbrev pub summaryFor : List ℕ → ℕ → ℕ → ℕ → ℕ → List ℕ
-summaryFor symbol k high low volume =
-    digits 4 (k * 1000) ++ (74 ∷ symbol ++ (81 ∷ digits 4 high ++ (digits 4 low ++ (digits 4 0 ++ digits 8 volume))))
+summaryFor symbol k high low volume = summaryAt symbol (k * 1000) high low 0 volume
 
 -- those of ABCD
 abbrev pub trade : ℕ → ℕ → List ℕ → ℕ → List ℕ
@@ -149,6 +163,14 @@ alone close = record { symbol = abcd; close = close } ∷ []
 
 abbrev pub both : List Listing
 both = record { symbol = abcd; close = 250000 } ∷ record { symbol = efgh; close = 100000 } ∷ []
+
+-- the n numbers from a on, and those from 1 on
+abbrev pub count : ℕ → ℕ → List ℕ
+count a zero = []
+count a (suc n) = a ∷ count (suc a) n
+
+abbrev pub inOrder : ℕ → List ℕ
+inOrder n = count 1 n
 
 -- message k of a day
 abbrev pub dayOf : List (List ℕ) → ℕ → List ℕ
@@ -246,13 +268,28 @@ clerkShows c =
 
 -- ---- the table
 
--- what is said back, how many are used, and what the rows show, both as worked from the book and as worked by the clerk
+-- what is said back, how many are used, and what the rows show, as worked from the book and as worked by the clerk
+pub record Result : Type 0 where
+  pub said : List ℕ
+  pub used : ℕ
+  pub book : List RowShown
+  pub clerk : List RowShown
+
+-- a case as it is worked, and as the table has it
+unfoldable pub worked : Case → Result
+unfolding clerkShows
+worked c = record { said = saidBack c; used = numbersUsed c; book = bookShows c; clerk = clerkShows c }
+
+abbrev pub expected : Case → Result
+expected c = record { said = c .said; used = c .used; book = c .shown; clerk = c .shown }
+
 abbrev pub AsSaid : List Case → Type 0
 AsSaid [] = Unit {0}
-AsSaid (c ∷ cs) = ((saidBack c ≡ c .said) × (numbersUsed c ≡ c .used) × (bookShows c ≡ c .shown) × (clerkShows c ≡ c .shown)) × AsSaid cs
+AsSaid (c ∷ cs) = (worked c ≡ expected c) × AsSaid cs
 
-unfoldable pub days : List Case
-days =
+-- document 01's days, by their numbers
+unfoldable pub numbered : List Case
+numbered =
     -- 1: W after number 3
     record {
       sheet = alone 250000;
@@ -354,8 +391,13 @@ days =
       used = 2;
       shown = figures 250000 Absent Absent Absent NoNet 0 0 false NotSet ∷ [];
     }
+    ∷ []
+
+-- marks and corrections
+unfoldable pub marked : List Case
+marked =
     -- trades that may set high and low only, by 4, L and Z
-    ∷ record {
+    record {
       sheet = alone 250000;
       day =
           event 1 79 ∷ trade 2 81 (sale 49 251000 100 plain) 1 ∷ trade 3 81 (sale 50 260000 300 (codes 64 52 32 32)) 2
@@ -412,8 +454,13 @@ days =
       used = 3;
       shown = figures 1000 Absent Absent Absent NoNet 10 1 false (Volume 2) ∷ [];
     }
+    ∷ []
+
+-- what a J says, and whether the row agrees
+unfoldable pub summed : List Case
+summed =
     -- a J that agrees
-    ∷ record {
+    record {
       sheet = alone 250000;
       day = event 1 79 ∷ trade 2 81 q1 100 ∷ summary 3 251000 251000 7 ∷ [];
       arrivals = 1 ∷ 2 ∷ 3 ∷ [];
@@ -491,8 +538,13 @@ days =
       used = 2;
       shown = figures 250000 Absent Absent Absent NoNet 0 0 true (Volume 3) ∷ [];
     }
+    ∷ []
+
+-- nets, refusals, phases, every line used, two symbols
+unfoldable pub answered : List Case
+answered =
     -- 12: last 1, close 2,000,000,000
-    ∷ record {
+    record {
       sheet = alone 2000000000;
       day = event 1 79 ∷ trade 2 81 (sale 49 1 1 plain) 1 ∷ [];
       arrivals = 1 ∷ 2 ∷ [];
@@ -641,3 +693,134 @@ days =
           ∷ figuresFor efgh 100000 (Of 99000) (Of 99000) (Of 99000) (Amount (negsuc 999)) 70 1 true (Volume 9) ∷ [];
     }
     ∷ []
+
+-- each field's rule from both sides, each type's length, each number's end
+unfoldable pub bounded : List Case
+bounded =
+    -- each centre, Q L B X, under one control; then the bytes beside each of them
+    record {
+      sheet = alone 1000;
+      day =
+          event 1 79 ∷ trade 2 81 (sale 49 1000 1 plain) 2 ∷ trade 3 76 (sale 49 1100 2 plain) 3 ∷ trade 4 66 (sale 49 1200 4 plain) 4
+          ∷ trade 5 88 (sale 49 1300 8 plain) 5
+          ∷ map (λ (centre : ℕ). trade 6 centre (sale 50 5000 16 plain) 6) (80 ∷ 82 ∷ 75 ∷ 77 ∷ 65 ∷ 67 ∷ 87 ∷ 89 ∷ []);
+      arrivals = inOrder 13;
+      said = replicate 5 0 ++ replicate 8 5;
+      used = 13;
+      shown = priced 1000 1300 1300 1000 (Amount (pos 300)) 15 4 5 ∷ [];
+    }
+    -- each class, Q N A P Z B; the bytes beside each of them; an X that names the first trade under another class
+    ∷ record {
+      sheet = alone 1000;
+      day =
+          event 1 79 ∷ reportAt abcd 2000 84 81 81 (sale 49 900 1 plain) 1 ∷ reportAt abcd 3000 84 81 78 (sale 50 1000 2 plain) 2
+          ∷ reportAt abcd 4000 84 81 65 (sale 51 1000 4 plain) 3 ∷ reportAt abcd 5000 84 81 80 (sale 52 1000 8 plain) 4
+          ∷ reportAt abcd 6000 84 81 90 (sale 53 1000 16 plain) 5 ∷ reportAt abcd 7000 84 81 66 (sale 54 1000 32 plain) 6
+          ∷ map (λ (class : ℕ). reportAt abcd 8000 84 81 class (sale 55 5000 64 plain) 7) (82 ∷ 77 ∷ 79 ∷ 64 ∷ 89 ∷ 91 ∷ 67 ∷ [])
+          ++ (reportAt abcd 9000 88 81 78 (sale 49 900 1 plain) 8 ∷ []);
+      arrivals = inOrder 15;
+      said = replicate 7 0 ++ (replicate 7 5 ++ (0 ∷ []));
+      used = 15;
+      shown = priced 1000 1000 1000 1000 (Amount (pos 0)) 62 5 8 ∷ [];
+    }
+    -- each event, O S Q M E C, and beside each the bytes next to it: O N P, S R T, Q, M L, E D F, C B; and O once more
+    ∷ record {
+      sheet = alone 1000;
+      day = map (event 1) (79 ∷ 78 ∷ 80 ∷ 83 ∷ 82 ∷ 84 ∷ 81 ∷ 77 ∷ 76 ∷ 69 ∷ 68 ∷ 70 ∷ 67 ∷ 66 ∷ 79 ∷ []);
+      arrivals = inOrder 15;
+      said = 0 ∷ 5 ∷ 5 ∷ 0 ∷ 5 ∷ 5 ∷ 0 ∷ 0 ∷ 5 ∷ 0 ∷ 5 ∷ 5 ∷ 0 ∷ 5 ∷ 6 ∷ [];
+      used = 15;
+      shown = figures 1000 Absent Absent Absent NoNet 0 0 false NotSet ∷ [];
+    }
+    -- J's high, low and close at their top, and one of them above it; the row has neither high nor low, so the J does not agree
+    ∷ record {
+      sheet = alone 1000;
+      day =
+          event 1 79 ∷ summaryAt abcd 2000 2000000000 2000000000 2000000000 2 ∷ summaryAt abcd 3000 2000000001 0 0 3
+          ∷ summaryAt abcd 4000 0 2000000001 0 4 ∷ summaryAt abcd 5000 0 0 2000000001 5 ∷ [];
+      arrivals = inOrder 5;
+      said = 0 ∷ 0 ∷ 5 ∷ 5 ∷ 5 ∷ [];
+      used = 5;
+      shown = figures 1000 Absent Absent Absent NoNet 0 0 false (Volume 2) ∷ [];
+    }
+    -- a time that goes backwards: the trade of the last millisecond is not the last; a correction before both keeps the older place; a T,
+    -- an S, an X and a J of the next day's first millisecond
+    ∷ record {
+      sheet = alone 1000;
+      day =
+          eventAt 5000 79 ∷ reportAt abcd 86399999 84 81 81 (sale 49 1000 1 plain) 1 ∷ reportAt abcd 0 84 81 81 (sale 50 2000 2 plain) 2
+          ∷ correct 0 81 (sale 49 1000 1 plain) (sale 51 1500 4 plain) 3 ∷ reportAt abcd 86400000 84 81 81 (sale 52 3000 8 plain) 4
+          ∷ eventAt 86400000 83 ∷ reportAt abcd 86400000 88 81 81 (sale 50 2000 2 plain) 5 ∷ summaryAt abcd 86400000 2000 1500 0 6 ∷ [];
+      arrivals = inOrder 8;
+      said = 0 ∷ 0 ∷ 0 ∷ 0 ∷ 5 ∷ 5 ∷ 5 ∷ 5 ∷ [];
+      used = 8;
+      shown = priced 1000 2000 2000 1500 (Amount (pos 1000)) 6 2 3 ∷ [];
+    }
+    -- the largest size, twice, and the smallest and the largest consolidated volume
+    ∷ record {
+      sheet = alone 1000;
+      day =
+          event 1 79 ∷ trade 2 81 (sale 49 1000 4294967295 plain) 0
+          ∷ trade 3 81 (sale 50 1000 4294967295 plain) 18446744073709551615 ∷ [];
+      arrivals = inOrder 3;
+      said = 0 ∷ 0 ∷ 0 ∷ [];
+      used = 3;
+      shown = priced 1000 1000 1000 1000 (Amount (pos 0)) 8589934590 2 18446744073709551615 ∷ [];
+    }
+    -- numbers above 4,294,967,295, and that number itself, which is only too early
+    ∷ record {
+      sheet = alone 250000;
+      day = w;
+      arrivals = 4294967296 ∷ 1 ∷ 4294967295 ∷ 4294967296 ∷ 18446744073709551615 ∷ 0 ∷ 2 ∷ 1 ∷ [];
+      said = 1 ∷ 0 ∷ 3 ∷ 1 ∷ 1 ∷ 1 ∷ 0 ∷ 2 ∷ [];
+      used = 2;
+      shown = priced 250000 251000 251000 251000 (Amount (pos 1000)) 100 1 100 ∷ [];
+    }
+    -- 11: each type a byte too short and a byte too long; no such type; four bytes, which have no type
+    ∷ record {
+      sheet = alone 250000;
+      day =
+          event 1 79 ∷ take 5 (event 2 83) ∷ (event 3 83 ++ (32 ∷ [])) ∷ take 44 (trade 4 81 q1 1) ∷ (trade 5 81 q1 1 ++ (32 ∷ []))
+          ∷ take 44 (cancel 6 81 q1 1) ∷ (cancel 7 81 q1 1 ++ (32 ∷ [])) ∷ take 66 (correct 8 81 q1 q9 1)
+          ∷ (correct 9 81 q1 q9 1 ++ (32 ∷ [])) ∷ take 33 (summary 10 1 1 1) ∷ (summary 11 1 1 1 ++ (32 ∷ []))
+          ∷ reportFor abcd 12 85 81 q1 1 ∷ take 4 (event 13 83) ∷ [];
+      arrivals = inOrder 13;
+      said = 0 ∷ replicate 12 4;
+      used = 13;
+      shown = figures 250000 Absent Absent Absent NoNet 0 0 false NotSet ∷ [];
+    }
+    -- codes that are not of their level: at 1 space ? A B, at 2 @ 3 8 E G N P, at 3 @ K M S V Y, at 4 @ C E G J L R T U Z
+    ∷ record {
+      sheet = alone 250000;
+      day =
+          event 1 79
+          ∷ map (λ (condition : List ℕ). trade 2 81 (sale 49 251000 1 condition) 1)
+          (map (λ (c : ℕ). codes c 32 32 32) (32 ∷ 63 ∷ 65 ∷ 66 ∷ [])
+          ++ (map (λ (c : ℕ). codes 64 c 32 32) (64 ∷ 51 ∷ 56 ∷ 69 ∷ 71 ∷ 78 ∷ 80 ∷ [])
+          ++ (map (λ (c : ℕ). codes 64 32 c 32) (64 ∷ 75 ∷ 77 ∷ 83 ∷ 86 ∷ 89 ∷ [])
+          ++ map (λ (c : ℕ). codes 64 32 32 c) (64 ∷ 67 ∷ 69 ∷ 71 ∷ 74 ∷ 76 ∷ 82 ∷ 84 ∷ 85 ∷ 90 ∷ []))));
+      arrivals = inOrder 28;
+      said = 0 ∷ replicate 27 5;
+      used = 28;
+      shown = figures 250000 Absent Absent Absent NoNet 0 0 false NotSet ∷ [];
+    }
+    -- controls of ! and of ~, and one of ten letters; then of spaces, a space first, one in the middle, of byte 127, padded with zeros; and
+    -- symbols of spaces and with a space first, which break the rule and are not merely unlisted
+    ∷ record {
+      sheet = alone 1000;
+      day =
+          event 1 79 ∷ trade 2 81 (sale 33 1000 1 plain) 2 ∷ trade 3 81 (sale 126 1000 2 plain) 3
+          ∷ trade 4 81 (saleUnder (replicate 10 65) 1000 4 plain) 4
+          ∷ map (λ (key : List ℕ). trade 5 81 (saleUnder key 2000 8 plain) 5)
+          (spaces 10 ∷ (32 ∷ 65 ∷ spaces 8) ∷ (65 ∷ 32 ∷ 66 ∷ spaces 7) ∷ (127 ∷ spaces 9) ∷ (65 ∷ replicate 9 0) ∷ [])
+          ++ (tradeFor (spaces 8) 6 81 q1 6 ∷ tradeFor (32 ∷ 65 ∷ spaces 6) 7 81 q1 7 ∷ []);
+      arrivals = inOrder 11;
+      said = replicate 4 0 ++ replicate 7 5;
+      used = 11;
+      shown = priced 1000 1000 1000 1000 (Amount (pos 0)) 7 3 4 ∷ [];
+    }
+    ∷ []
+
+-- the whole table
+abbrev pub DaysAsSaid : Type 0
+DaysAsSaid = AsSaid numbered × AsSaid marked × AsSaid summed × AsSaid answered × AsSaid bounded

@@ -1,3 +1,4 @@
 pub mod Days
+pub mod Sheets
 pub mod DayW
 pub mod Premises

@@ -1,5 +1,6 @@
 -- `book::judge_listing` meets its contract.
 -- Assumes nothing.
+use Prim.Native.Nat.{ℕ}
 use mathlib.Core.Path.{_≡_, sym, _∙_}
 use mathlib.Core.Bool.{Bool, true, false, _&&_}
 use borrow.Author.Tests.{le-leb, lt-leb}
@@ -10,6 +11,10 @@ use Rattle.book.proofs.judge_listing.Tie as tie
 
 abbrev asked : tie.Then2 → tie.Then1
 asked c = c .before .before .before .before
+
+-- the wanted number of the counters
+abbrev wanted : tie.Then2 → ℕ
+wanted c = asked c .before .before .before .before .before .args .c .wanted
 
 -- a test of two parts, the first as it was promised
 as-promised : (x y b t : Bool) → x ≡ y → (x && b) ≡ t → (y && b) ≡ t
@@ -27,8 +32,9 @@ is-text-requires c κs = search needs
 returns : tie.Need-returns
 returns c =
     let kept = c .before .before in
+    let late : wanted kept ≡ 1 → ⊥ = c .if3 .taken in
     list-late _ _ (sym (asked kept .before .is-sound .ensures) ∙ asked kept .if1 .taken)
-    (as-promised _ _ _ _ (kept .before .before .is-text .ensures) (kept .if2 .taken)) (c .if3 .taken)
+    (as-promised _ _ _ _ (kept .before .before .is-text .ensures) (kept .if2 .taken)) late
 
 find-requires : tie.Need-find-requires
 find-requires c κs = search needs

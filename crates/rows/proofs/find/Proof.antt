@@ -98,8 +98,9 @@ returns c =
     let test = c .before .before in
     let l = test .before .loop in
     let k = known (test .before .before) in
+    let read : c .before .name-at .result ≡ low (part (k .rows) (l .i * rowCell) 8) = c .before .name-at .ensures in
     sym (find-on (isOf (k .symbol)) (listingIn (k .rows)) (l .i) _ (test .loop-test .taken)
-    (here (k .rows) (k .symbol) (k .name) (l .i) (k .bytes) (k .named) ∙ ap (λ (x : ℕ). eqb x (k .name)) (sym (c .before .name-at .ensures))
+    (here (k .rows) (k .symbol) (k .name) (l .i) (k .bytes) (k .named) ∙ ap (λ (x : ℕ). eqb x (k .name)) (sym read)
     ∙ eq-eqb _ _ (c .if1 .taken))) ∙ l .inv .2 (k .symbol) (k .named)
 
 add-i : tie.Need-add-i Inv-loop μ-loop

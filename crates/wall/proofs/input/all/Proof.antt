@@ -1,6 +1,5 @@
--- `wall::input::all` meets its contract. Less than the longest entry is held at each turn.
+-- `wall::input::all` meets its contract. The piece has its length at each turn.
 -- Assumes nothing.
-use Prim.Native.Nat.{_≤_}
 use mathlib.Core.Path.{_≡_}
 use lib.ListN.{length}
 use borrow.Author.Needs.{needs}
@@ -8,20 +7,17 @@ use Rattle.wall.proofs.input.all.Statement.{statement}
 use Rattle.wall.proofs.input.all.Tie as tie
 
 abbrev Inv-loop : tie.InvT-loop
-Inv-loop rows₀ lines₀ piece₀ reading₀ turns₀ rows lines piece reading turns =
-    (4096 ≡ length piece) × (reading .held ≤ 71) × (length rows ≡ length rows₀) × (length lines ≡ length lines₀)
+Inv-loop rows₀ lines₀ piece₀ tape₀ turns₀ rows lines piece tape turns =
+    (4096 ≡ length piece) × (length rows ≡ length rows₀) × (length lines ≡ length lines₀)
 
 abbrev μ-loop : tie.MeasureT-loop
-μ-loop rows₀ lines₀ piece₀ reading₀ turns₀ rows lines piece reading turns = turns
+μ-loop rows₀ lines₀ piece₀ tape₀ turns₀ rows lines piece tape turns = turns
 
 buffer-requires : tie.Need-buffer-requires Inv-loop μ-loop
 buffer-requires c κs = search needs
 
-fresh-requires : tie.Need-fresh-requires Inv-loop μ-loop
-fresh-requires c κs = search needs
-
-halted-requires : tie.Need-halted-requires Inv-loop μ-loop
-halted-requires c κs = search needs
+begin-requires : tie.Need-begin-requires Inv-loop μ-loop
+begin-requires c κs = search needs
 
 loop-holds : tie.Need-loop-holds Inv-loop μ-loop
 loop-holds c = search needs
@@ -69,8 +65,7 @@ all-spec =
     Inv-loop
     μ-loop
     buffer-requires
-    fresh-requires
-    halted-requires
+    begin-requires
     loop-holds
     is-open-requires
     slice-aggregate-one

@@ -1,4 +1,4 @@
--- `wall::paper::put` meets its contract. What is written is no more than the line has.
+-- `wall::paper::put` meets its contract. What is written is no more than the text has.
 -- Assumes nothing.
 use mathlib.Core.Path.{sym}
 use lib.Seq.{length-take-le}
@@ -11,7 +11,7 @@ lesser-requires : tie.Need-lesser-requires
 lesser-requires c κs = search needs
 
 slice-aggregate-write-all : tie.Need-slice-aggregate-write-all
-slice-aggregate-write-all c = sym (length-take-le (c .before .lesser .result) (c .before .before .before .args .line .now) (omega arith))
+slice-aggregate-write-all c = sym (length-take-le (c .before .lesser .result) (c .before .before .before .args .text .now) (omega arith))
 
 write-all-requires : tie.Need-write-all-requires
 write-all-requires c κs = search needs

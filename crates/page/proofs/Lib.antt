@@ -1,0 +1,4 @@
+pub mod Laws
+pub mod Fitting
+pub mod WallLongest
+pub mod Promise

@@ -1,0 +1,124 @@
+-- `page::write` meets its contract. After k lines these stand in `out`, as far as there is room.
+-- Assumes nothing.
+use Prim.Native.Nat.{_≤_, _-_}
+use mathlib.Core.Path.{_≡_, refl}
+use native.Mathlib.Omega.{arith}
+use borrow.Author.Needs.{needs}
+use lib.ListN.{length}
+use Rattle.book.specs.State.{lent}
+use Rattle.page.specs.Printable.{Printable}
+use Rattle.page.proofs.Fitting.{ending-good}
+use Rattle.page.proofs.Laws.{rows-most, Written, none-yet, within, next-turn, all-turns}
+use Rattle.page.proofs.write.Statement.{statement}
+use Rattle.page.proofs.write.Tie as tie
+
+abbrev Inv-loop : tie.InvT-loop
+Inv-loop c rows lines ending out₀ end room k₀ at₀ out k at = (k ≤ end) × Written (lent c rows lines) ending out₀ k at out
+
+abbrev μ-loop : tie.MeasureT-loop
+μ-loop c rows lines ending out₀ end room k₀ at₀ out k at = end - k
+
+-- what a call is lent and told is what its types say
+pub entered : (c : tie.After-slice-known Inv-loop μ-loop)
+    → let s = c .before .before .before in
+    Printable (lent (s .args .c) (s .args .rows .now) (s .args .lines .now)) (s .args .ending)
+entered c =
+    let s = c .before .before .before in
+    record {
+      rows = λ i. c .before .before .shared-slice-known .given i .fits;
+      lines = λ i. c .before .shared-slice-known2 .given i .fits;
+      taken = search needs;
+      wanted = search needs;
+      ending = ending-good (s .args .ending) _ (s .good .1 .1 .1 .0);
+    }
+
+printed-requires : tie.Need-printed-requires Inv-loop μ-loop
+printed-requires c κs = tt
+
+few : (c : tie.After-printed Inv-loop μ-loop) → c .printed .result ≤ 256
+few c = rows-most (c .before .before .before .before .args .rows .now) (c .before .before .before .before .args .c .rows) _ (c .printed .ensures)
+
+add-end : tie.Need-add-end Inv-loop μ-loop
+add-end c = search (needs, few c)
+
+abbrev begun : tie.After-printed Inv-loop μ-loop → tie.Start Inv-loop μ-loop
+begun c = c .before .before .before .before
+
+loop-holds : tie.Need-loop-holds Inv-loop μ-loop
+loop-holds c = (omega arith, none-yet (lent (begun c .args .c) (begun c .args .rows .now) (begun c .args .lines .now)) (begun c .args .ending) (begun c .args .out .now))
+
+-- the place lies within the space
+inside : (c : tie.At-loop Inv-loop μ-loop)
+    → let s = begun (c .before) in (c .loop .at ≤ length (c .loop .out)) × (length (c .loop .out) ≡ length (s .args .out .now))
+inside c = within (lent (begun (c .before) .args .c) (begun (c .before) .args .rows .now) (begun (c .before) .args .lines .now)) (begun (c .before) .args .ending) (begun (c .before) .args .out .now) (c .loop .k) (c .loop .at) (c .loop .out) (c .loop .inv .1)
+
+sub-line : tie.Need-sub-line Inv-loop μ-loop
+sub-line c = inside (c .before) .0
+
+part-line-start : tie.Need-part-line-start Inv-loop μ-loop
+part-line-start c = search (needs, inside (c .before) .0)
+
+part-line-end : tie.Need-part-line-end Inv-loop μ-loop
+part-line-end c = search needs
+
+line-requires : tie.Need-line-requires Inv-loop μ-loop
+line-requires c κs = tt
+
+abbrev turn : tie.After-slice-known2 Inv-loop μ-loop → tie.At-loop Inv-loop μ-loop
+turn c = c .before .before .before .before .before
+
+sub-lesser : tie.Need-sub-lesser Inv-loop μ-loop
+sub-lesser c = omega (arith, inside (turn c))
+
+lesser-requires : tie.Need-lesser-requires Inv-loop μ-loop
+lesser-requires c κs = tt
+
+add-at : tie.Need-add-at Inv-loop μ-loop
+add-at c = search (needs, inside (turn (c .before)))
+
+add-k : tie.Need-add-k Inv-loop μ-loop
+add-k c = search (needs, few (turn (c .before) .before))
+
+loop-less : tie.Need-loop-less Inv-loop μ-loop
+loop-less c = omega arith
+
+loop-again : tie.Need-loop-again Inv-loop μ-loop
+loop-again c =
+    let t = turn (c .before) in
+    let s = begun (t .before) in (
+      omega arith,
+      next-turn (lent (s .args .c) (s .args .rows .now) (s .args .lines .now)) (s .args .ending) (s .args .out .now)
+          (t .loop .k) (t .loop .at) (t .loop .out) (t .loop .inv .1) _ _ _ _ refl (c .before .before .before .line .ensures) (c .lesser .ensures),
+    )
+
+same-length : tie.Need-same-length Inv-loop μ-loop
+same-length c = inside (c .before) .1
+
+returns : tie.Need-returns Inv-loop μ-loop
+returns c =
+    let t = c .before in
+    let s = begun (t .before) in
+    all-turns (lent (s .args .c) (s .args .rows .now) (s .args .lines .now)) (s .args .ending) (s .args .out .now)
+    (t .loop .k) (t .loop .at) (t .loop .out) (t .before .printed .result) (t .before .printed .ensures) (omega arith) (t .loop .inv .1)
+
+pub write-spec : {M : Type 1} → statement M
+write-spec =
+    tie.close
+    (tie.spec
+    Inv-loop
+    μ-loop
+    printed-requires
+    add-end
+    loop-holds
+    sub-line
+    part-line-start
+    part-line-end
+    line-requires
+    sub-lesser
+    lesser-requires
+    add-at
+    add-k
+    loop-less
+    loop-again
+    same-length
+    returns)

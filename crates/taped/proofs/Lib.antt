@@ -1,0 +1,3 @@
+pub mod TapeDay
+pub mod Printed
+pub mod WallSaid

@@ -1,0 +1,2 @@
+pub mod ClerksWall
+pub mod Said
