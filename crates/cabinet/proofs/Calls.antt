@@ -6,8 +6,9 @@ use mathlib.Core.List.{List}
 use Rattle.answers.specs.Answers.{numberOf}
 use Rattle.counters.specs.declared.Counters.{Counters}
 use Rattle.rows.specs.declared.Listing.{Listing}
+use Rattle.book.specs.declared.Said.{Said}
 use Rattle.book.specs.declared.Shown.{Shown}
-use Rattle.book.specs.State.{State, withCounters, Outcome, Arrival}
+use Rattle.book.specs.State.{State, withCounters, Outcome, leaving, Arrival}
 use Rattle.book.specs.Calls.{listed, delivered, shown}
 use Rattle.words.specs.Words.{countersOf, counterWords, rowWords}
 use Rattle.words.proofs.Again.{counters-again}
@@ -25,7 +26,11 @@ module _ (k : Counters) (s : State) (e : s .counters ≡ k) where
   state-is : s ≡ withCounters k s
   state-is = ap (λ (c : Counters). withCounters c s) e
 
-  module _ (o : Outcome) (a : ℕ) (w₁ : List ℕ) (p : w₁ ≡ counterWords (o .state .counters)) (n : a ≡ o .answer) where
+  -- it told so and left these rooms, and this number and these words were handed on
+  module _ (t : Said) (rows lines : List ℕ) (a : ℕ) (w₁ : List ℕ) (p : w₁ ≡ counterWords (t .counters)) (n : a ≡ numberOf (t .answer)) where
+    abbrev o : Outcome
+    o = leaving t rows lines
+
     pub list-said : (l given : Listing) → given ≡ l → o ≡ listed s given
         → crossed a w₁ (withCounters (countersOf w₁) (o .state)) ≡ crossing (listed (withCounters k s) l)
     list-said l given g h = told-crosses o a w₁ n p ∙ ap crossing (h ∙ ap (listed s) g ∙ ap (λ (x : State). listed x l) state-is)

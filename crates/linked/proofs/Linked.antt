@@ -19,7 +19,7 @@ use Rattle.book.specs.State.{State, lent}
 use Rattle.book.specs.Calls.{shown}
 use Rattle.words.specs.Words.{counterWords, countersOf, rowCount, rowWords}
 use Rattle.words.proofs.Again.{counters-again}
-use Rattle.clerk.specs.Steps.{Book, bookOf}
+use Rattle.clerk.specs.Steps.{bookOf}
 use Rattle.clerk.specs.Clerk.{isIn, symbolsIn, clerkSheet, Taken, takenOf, shownBy, clerkBook}
 use Rattle.clerk.specs.Arrivals.{Largest, numbers, Copies, upto}
 use Rattle.clerk.specs.Claims.{NoRepeat}
@@ -27,6 +27,7 @@ use Rattle.clerk.specs.States.{Asked, toList, toDeliver, askedAll, arrivalsIn, 
 use Rattle.clerk.proofs.InOrder.{largest-below}
 use Rattle.clerk.proofs.Sim.{sheet-once}
 use Rattle.clerk.proofs.States.{Stands, steps-from, shown-listed, shown-missing}
+use Rattle.linked.specs.BookWords.{bookWords}
 use Rattle.cabinet.specs.Crossing.{Held, stateOf, Crossed}
 use Rattle.cabinet.proofs.Given.{StartLfts, StartArgs, StartExit, startLeft, ListLfts, ListArgs, ListExit, listFrom, listGiven, listLeft}
 use Rattle.cabinet.proofs.Given.{DeliverLfts, DeliverArgs, DeliverExit, deliverFrom, deliverGiven, deliverLeft}
@@ -58,10 +59,6 @@ pub record LinkedDay (rows lines : List ℕ) (qs : List Asked) (end : Held) : Ty
   pub started : start-reads.Learnt lifetimes before tt after
   pub calls : Calls (record { words = startLeft lifetimes after; rows = rows; lines = lines }) qs end
 
--- the words of a book's counters
-abbrev pub bookWords : Book → List ℕ
-bookWords b = b .wanted ∷ b .phase ∷ b .listed ∷ b .used ∷ b .taken ∷ []
-
 -- ---- what the calls ask, and what they leave
 
 asked : {h end : Held} {qs : List Asked} → Calls h qs end → AskedIn (stateOf h) qs
@@ -91,6 +88,11 @@ words-whole no-call w = w
 words-whole (a-listing κs a r x q t) w = words-whole t (whole _ _ (ap (λ (c : Crossed). c .words) (q .0)))
 words-whole (a-delivery κs a r x q t) w = words-whole t (whole _ _ (ap (λ (c : Crossed). c .words) (q .0)))
 words-whole (a-reading κs a r x q t) w = words-whole t w
+
+-- the words of a state's counters are those of its book
+words-of : (s : State) → counterWords (s .counters) ≡ bookWords (bookOf s)
+unfolding bookOf counterWords
+words-of s = refl
 
 -- ---- the day
 
@@ -125,10 +127,9 @@ module _ (day : ℕ → List ℕ) (N n : ℕ) (fits : N ≤ lastNumber) (qs : Li
   -- the book is the clerk's, of the messages 1 to n, and the words are those of his counters
   pub linked-day : (n ≤ N) × (end .words ≡ bookWords (clerkBook sheet room (upto day n)))
       × (bookOf (stateOf end) ≡ clerkBook sheet room (upto day n))
-  unfolding bookOf counterWords
   linked-day = (
     largest-below day N n (arrivalsIn qs) copies largest,
-    words-whole (h .calls) (whole _ freshCounters (h .started)) ∙ ap bookWords (stands .reads),
+    words-whole (h .calls) (whole _ freshCounters (h .started)) ∙ words-of (stateOf end) ∙ ap bookWords (stands .reads),
     stands .reads,
   )
 

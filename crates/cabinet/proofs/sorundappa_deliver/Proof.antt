@@ -29,7 +29,8 @@ returns c =
     let called = put .before .before .before .before .before .before .before in
     let read = called .before .before .before in
     let known = read .before .before in (
-      deliver-said _ _ (read .counters .ensures .0) _ _ _ (put .put-counters .ensures) (c .told .ensures) _ (called .deliver .ensures),
+      deliver-said _ _ (read .counters .ensures .0) (called .deliver .result) _ _ _ _ (put .put-counters .ensures) (c .told .ensures) _
+          (called .deliver .ensures),
       record {
         count = read .counters .ensures .1;
         lent = λ i. known .before .slice-known2 .given i .fits;

@@ -28,8 +28,8 @@ returns c =
     let called = c .before .before .before .before .before .before in
     let made = called .before .before in
     let read = made .before .counters .ensures in (
-      list-said _ _ (read .0) _ _ _ (c .before .put-counters .ensures) (c .told .ensures) _ _ (made .listing .ensures .0)
-          (called .list .ensures),
+      list-said _ _ (read .0) (called .list .result) _ _ _ _ (c .before .put-counters .ensures) (c .told .ensures) _ _
+          (made .listing .ensures .0) (called .list .ensures),
       record { count = read .1; fits = made .listing .ensures .1 },
     )
 
