@@ -1,3 +1,4 @@
+pub mod ByHand
 pub mod Demand1
 pub mod Touches
 pub mod Steps

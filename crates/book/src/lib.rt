@@ -100,10 +100,10 @@ fn use_number(c: Counters, rows: &mut [u8], lines: &mut [u8], message: &[u8]) ->
     let r = q.found;
     let kind = kind_of(r.letter);
     let v = judge(c.phase, rows, c.rows, lines, c.lines, kind, q);
-    let a = v.answer;
-    if answers::number(a) != 0 {
+    let by_content = v.answer;
+    if answers::number(by_content) != 0 {
         return Said {
-            answer: a,
+            answer: by_content,
             counters: c.use_up(),
         };
     }
@@ -132,10 +132,10 @@ pub fn deliver(c: Counters, rows: &mut [u8], lines: &mut [u8], number: u64, mess
     ensures { λ s. ⌜ leaving s (now (rows .exit)) (now (lines .exit))
         ≡ delivered (lent c (now (rows .entry)) (now (lines .entry))) (arrives number (now (message .entry))) ⌝ }
 {
-    let a = judge_arrival(c, rows, lines, number);
-    if answers::number(a) != 0 {
+    let by_number = judge_arrival(c, rows, lines, number);
+    if answers::number(by_number) != 0 {
         return Said {
-            answer: a,
+            answer: by_number,
             counters: c,
         };
     }

@@ -1,5 +1,5 @@
--- Rows by hand: what cells of written-down bytes are read as, which of two equal rows is found, and how many rows a room has. The figures are
--- document 01's, and what is read of a mark is what it says of one that is not set.
+-- Rows by hand: what cells are read as, whatever their marks, which of two equal rows is found, and how many rows a room has. The figures
+-- are document 01's and come from no definition, so a mark that is read wrong in the code and in its definition alike is found here.
 -- Assumes nothing.
 use Prim.Native.Nat.{ℕ}
 use mathlib.Core.Path.{_≡_, refl}

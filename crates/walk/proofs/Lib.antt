@@ -1,3 +1,4 @@
+pub mod ByHand
 pub mod Laws
 pub mod Meaning
 pub mod Promise

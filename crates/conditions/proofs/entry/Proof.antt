@@ -1,4 +1,5 @@
 -- `conditions::entry` is the code's digit of the word that it stands in.
+use mathlib.Core.Path.{refl}
 use borrow.Author.Needs.{needs}
 use Rattle.conditions.specs.Conditions.{entryOf}
 use Rattle.conditions.proofs.entry.Statement.{statement}
@@ -21,7 +22,7 @@ cast-result-2 c = search needs
 
 returns : tie.Need-returns
 unfolding entryOf
-returns c = simp (c .word .ensures)
+returns c = simp (c .word .ensures) refl
 
 pub entry-spec : {M : Type 1} → statement M
 entry-spec = tie.close (tie.spec word-requires mul-result cast-result shr-result cast-result-2 returns)

@@ -1,5 +1,5 @@
 -- `conditions::word` reads the table at the place that the arm names.
-use mathlib.Core.Path.{_≡_}
+use mathlib.Core.Path.{_≡_, refl}
 use Prim.Native.Nat.{ℕ, zero, suc, _≤_}
 use native.Mathlib.Omega.{arith}
 use borrow.Author.Needs.{needs}
@@ -67,55 +67,55 @@ array-read-result-16 : tie.Need-array-read-result-16
 array-read-result-16 c = search needs
 
 returns : tie.Need-returns
-returns c = simp (c .match .keys1)
+returns c = simp (c .match .keys1) refl
 
 returns-2 : tie.Need-returns-2
-returns-2 c = simp (c .match .keys2)
+returns-2 c = simp (c .match .keys2) refl
 
 returns-3 : tie.Need-returns-3
-returns-3 c = simp (c .match .keys3)
+returns-3 c = simp (c .match .keys3) refl
 
 returns-4 : tie.Need-returns-4
-returns-4 c = simp (c .match .keys4)
+returns-4 c = simp (c .match .keys4) refl
 
 returns-5 : tie.Need-returns-5
-returns-5 c = simp (c .match .keys5)
+returns-5 c = simp (c .match .keys5) refl
 
 returns-6 : tie.Need-returns-6
-returns-6 c = simp (c .match .keys6)
+returns-6 c = simp (c .match .keys6) refl
 
 returns-7 : tie.Need-returns-7
-returns-7 c = simp (c .match .keys7)
+returns-7 c = simp (c .match .keys7) refl
 
 returns-8 : tie.Need-returns-8
-returns-8 c = simp (c .match .keys8)
+returns-8 c = simp (c .match .keys8) refl
 
 returns-9 : tie.Need-returns-9
-returns-9 c = simp (c .match .keys9)
+returns-9 c = simp (c .match .keys9) refl
 
 returns-10 : tie.Need-returns-10
-returns-10 c = simp (c .match .keys10)
+returns-10 c = simp (c .match .keys10) refl
 
 returns-11 : tie.Need-returns-11
-returns-11 c = simp (c .match .keys11)
+returns-11 c = simp (c .match .keys11) refl
 
 returns-12 : tie.Need-returns-12
-returns-12 c = simp (c .match .keys12)
+returns-12 c = simp (c .match .keys12) refl
 
 returns-13 : tie.Need-returns-13
-returns-13 c = simp (c .match .keys13)
+returns-13 c = simp (c .match .keys13) refl
 
 returns-14 : tie.Need-returns-14
-returns-14 c = simp (c .match .keys14)
+returns-14 c = simp (c .match .keys14) refl
 
 returns-15 : tie.Need-returns-15
-returns-15 c = simp (c .match .keys15)
+returns-15 c = simp (c .match .keys15) refl
 
 returns-16 : tie.Need-returns-16
 returns-16 c =
     let past : 15 ≤ c .before .args .at = beyond (c .before .args .at) 15 (c .match .rest) in
     let last : c .before .args .at ≡ 15 = omega arith in
-    simp last
+    simp last refl
 
 pub word-spec : {M : Type 1} → statement M
 word-spec =

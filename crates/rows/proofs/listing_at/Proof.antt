@@ -1,5 +1,6 @@
 -- `rows::listing_at` meets its contract.
 -- Assumes nothing.
+use mathlib.Core.Path.{refl}
 use Rattle.rows.specs.Rows.{listingFrom}
 use borrow.Author.Needs.{needs}
 use Rattle.rows.proofs.listing_at.Statement.{statement}
@@ -19,7 +20,7 @@ number4-requires c κs = search needs
 
 returns : tie.Need-returns
 unfolding listingFrom
-returns c = simp (c .number4 .ensures, c .before .before .fill .ensures)
+returns c = simp (c .number4 .ensures, c .before .before .fill .ensures) refl
 
 pub listing-at-spec : {M : Type 1} → statement M
 listing-at-spec =

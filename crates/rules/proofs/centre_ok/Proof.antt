@@ -1,11 +1,12 @@
 -- `rules::centre_ok` meets its contract.
 -- Assumes nothing.
+use mathlib.Core.Path.{refl}
 use mathlib.Core.Bool.{or-assoc, or-false}
 use Rattle.rules.proofs.centre_ok.Statement.{statement}
 use Rattle.rules.proofs.centre_ok.Tie as tie
 
 returns : tie.Need-returns
-returns c = simp (or-assoc, or-false)
+returns c = simp (or-assoc, or-false) refl
 
 pub centre-ok-spec : {M : Type 1} → statement M
 centre-ok-spec = tie.close (tie.spec returns)

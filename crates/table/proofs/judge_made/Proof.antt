@@ -1,6 +1,6 @@
 -- `table::judge_made` meets its contract.
 -- Assumes nothing.
-use mathlib.Core.Path.{_≡_, sym, _∙_}
+use mathlib.Core.Path.{_≡_, refl, sym, _∙_}
 use mathlib.Core.Bool.{true, false}
 use borrow.Author.Tests.{le-leb, lt-leb}
 use Rattle.cells.specs.declared.Found.{Found}
@@ -64,7 +64,7 @@ returns-3 c =
 
 returns-4 : tie.Need-returns-4
 unfolding madeBy
-returns-4 c = simp (sym (c .before .makes-new .ensures) ∙ c .if1 .left)
+returns-4 c = simp (sym (c .before .makes-new .ensures) ∙ c .if1 .left) refl
 
 pub judge-made-spec : {M : Type 1} → statement M
 judge-made-spec =

@@ -1,5 +1,6 @@
 -- `table::judge_number` meets its contract.
 -- Assumes nothing.
+use mathlib.Core.Path.{refl}
 use borrow.Author.Tests.{lt-ltb, le-ltb}
 use Rattle.table.specs.Table.{numberTable}
 use borrow.Author.Needs.{needs}
@@ -8,19 +9,19 @@ use Rattle.table.proofs.judge_number.Tie as tie
 
 returns : tie.Need-returns
 unfolding numberTable
-returns c = simp (c .if1 .taken)
+returns c = simp (c .if1 .taken) refl
 
 returns-2 : tie.Need-returns-2
 unfolding numberTable
-returns-2 c = simp (c .before .if1 .left, lt-ltb _ _ (c .if2 .taken))
+returns-2 c = simp (c .before .if1 .left, lt-ltb _ _ (c .if2 .taken)) refl
 
 returns-3 : tie.Need-returns-3
 unfolding numberTable
-returns-3 c = simp (c .before .before .if1 .left, le-ltb _ _ (c .before .if2 .left), lt-ltb _ _ (c .if3 .taken))
+returns-3 c = simp (c .before .before .if1 .left, le-ltb _ _ (c .before .if2 .left), lt-ltb _ _ (c .if3 .taken)) refl
 
 returns-4 : tie.Need-returns-4
 unfolding numberTable
-returns-4 c = simp (c .before .before .if1 .left, le-ltb _ _ (c .before .if2 .left), le-ltb _ _ (c .if3 .left))
+returns-4 c = simp (c .before .before .if1 .left, le-ltb _ _ (c .before .if2 .left), le-ltb _ _ (c .if3 .left)) refl
 
 pub judge-number-spec : {M : Type 1} → statement M
 judge-number-spec =

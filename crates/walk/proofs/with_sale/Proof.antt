@@ -1,5 +1,6 @@
 -- `walk::with_sale` meets its contract.
 -- Assumes nothing.
+use mathlib.Core.Path.{refl}
 use Rattle.figures.specs.Figures.{sold}
 use borrow.Author.Needs.{needs}
 use Rattle.walk.proofs.with_sale.Statement.{statement}
@@ -22,7 +23,7 @@ latest-requires c κs = search needs
 
 returns : tie.Need-returns
 unfolding sold
-returns c = simp (c .latest .ensures, c .before .lowered .ensures, c .before .before .higher .ensures)
+returns c = simp (c .latest .ensures, c .before .lowered .ensures, c .before .before .higher .ensures) refl
 
 pub with-sale-spec : {M : Type 1} → statement M
 with-sale-spec =
