@@ -14,6 +14,7 @@ use denote.Ref.{now}
 use Rattle.book.specs.State.{State, lent}
 use Rattle.page.specs.declared.Ending.{Ending}
 use Rattle.page.specs.Page.{lineOf, wallOf}
+use Rattle.page.specs.Printable.{Printable}
 use Rattle.page.proofs.ended as ended
 use Rattle.page.proofs.ended.Reads as ended-reads
 use Rattle.page.proofs.ended.Kinds as ended-kinds
@@ -76,11 +77,11 @@ module _ (κs : WriteLfts) (a : WriteArgs κs) where
 
   pub write-one : (r r′ : ℕ) (s s′ : WriteExit κs) → write-reads.Learnt κs a r s → write-reads.Learnt κs a r′ s′
       → (r ≡ r′) × (writeLeft s ≡ writeLeft s′)
-  write-one r r′ s s′ h h′ = (h .1 ∙ sym (h′ .1), h .0 ∙ sym (h′ .0))
+  write-one r r′ s s′ h h′ = (h .1 .0 ∙ sym (h′ .1 .0), h .0 ∙ sym (h′ .0))
 
   -- what a caller is told, and nothing else
   pub write-says : (r : ℕ) (s : WriteExit κs)
       → write-reads.Learnt κs a r s
       ≡ ((writeLeft s ≡ sets writeSpace 0 (wallOf writeFrom writeEnding))
-      × (r ≡ min (length (wallOf writeFrom writeEnding)) (length writeSpace)))
+      × ((r ≡ min (length (wallOf writeFrom writeEnding)) (length writeSpace)) × Printable writeFrom writeEnding))
   write-says r s = refl

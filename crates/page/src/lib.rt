@@ -10,6 +10,7 @@ ghost use lib.Seq.{sets};
 ghost use Rattle.print.specs.Texts.{rowText};
 ghost use Rattle.book.specs.State.{lent};
 ghost use Rattle.rows.specs.Rows.{rowIn, usedRows};
+ghost use Rattle.page.specs.Printable.{Printable};
 ghost use Rattle.page.specs.Page.{shownRow, endText, endingAt, lineOf, wallOf};
 
 // How a tape came to its end: after a whole entry, or at the offset of the kind byte of what cannot be played.
@@ -91,12 +92,14 @@ pub fn line(
     0
 }
 
-// Writes the whole wall, as far as there is room, and tells how many bytes that are.
+// Writes the whole wall, as far as there is room, and tells how many bytes that are. What it is lent and told is what its
+// types say.
 pub fn write(c: Counters, rows: &[u8], lines: &[u8], ending: Ending, out: &mut [u8]) -> usize
     ensures bytes { λ n. ⌜ now (out .exit)
         ≡ sets (now (out .entry)) 0 (wallOf (lent c (now (rows .entry)) (now (lines .entry))) ending) ⌝ }
     ensures count { λ n. ⌜ n
         ≡ min (length (wallOf (lent c (now (rows .entry)) (now (lines .entry))) ending)) (length (now (out .entry))) ⌝ }
+    ensures types { λ n. ⌜ Printable (lent c (now (rows .entry)) (now (lines .entry))) ending ⌝ }
 {
     let end = printed(c, rows) + 3;
     let room = out.len();

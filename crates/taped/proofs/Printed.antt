@@ -20,7 +20,7 @@ use Rattle.feed.specs.Reading.{Standing}
 use Rattle.feed.proofs.Through.{ReadSo, read-so}
 use Rattle.page.specs.declared.Ending.{Ending}
 use Rattle.page.specs.Page.{endingAt, wallOf, wallAfter, wallText}
-use Rattle.page.specs.Printable.{Printable, wallLongest}
+use Rattle.page.specs.Printable.{wallLongest}
 use Rattle.page.proofs.WallLongest.{wall-longest}
 use Rattle.page.proofs.Promise.{WriteLfts, WriteArgs, WriteExit, writeFrom, writeEnding, writeSpace, writeLeft}
 use Rattle.page.proofs.write.Reads as write-reads
@@ -50,24 +50,23 @@ module _ {rooms : State} {tape : List ℕ} {s : Standing} (read : ReadSo rooms t
   unfolding wallText
   unread-idle e more = ap wallAfter (no-kind-ends fresh tape more (sym (read-so read .stop) ∙ e))
 
-  -- and a call of `write`, of that state and that ending. What it is lent and told is `Printable` by its types: `entered` in
-  -- crates/page/proofs/write/Proof.antt proves it of every call
+  -- and a call of `write`, of that state and that ending, in a space for the longest wall of the room's rows
   pub wall-printed : (κs : WriteLfts) (a : WriteArgs κs) (r : ℕ) (x : WriteExit κs)
-      → writeFrom κs a ≡ s .state → writeEnding κs a ≡ endingAt (s .stop) (s .at) → Printable (writeFrom κs a) (writeEnding κs a)
+      → writeFrom κs a ≡ s .state → writeEnding κs a ≡ endingAt (s .stop) (s .at)
       → wallLongest (rowLimit (length (s .state .rows))) ≤ length (writeSpace κs a)
       → write-reads.Learnt κs a r x → take r (writeLeft κs a x) ≡ wallText rooms tape
-  wall-printed κs a r x e f p room h =
+  wall-printed κs a r x e f room h =
       let text = wallOf (writeFrom κs a) (writeEnding κs a) in
       let rows = ap (λ (t : State). length (t .rows)) e in
       let most : length text ≤ length (writeSpace κs a)
       = omega (
         arith,
-        wall-longest (writeFrom κs a) (writeEnding κs a) p,
+        wall-longest (writeFrom κs a) (writeEnding κs a) (h .1 .1),
         used-rows-length (writeFrom κs a .rows) (writeFrom κs a .counters .rows),
         ap rowLimit rows,
         room,
       ) in
-      let count : r ≡ length text = omega (arith, h .1) in
+      let count : r ≡ length text = omega (arith, h .1 .0) in
       stands-whole text (writeSpace κs a) (writeLeft κs a x) r (h .0) count most ∙ ap₂ wallOf e f ∙ read-through
 
 -- the program's space: 64 rows, 1,920 bytes of room for them

@@ -98,8 +98,9 @@ returns : tie.Need-returns Inv-loop μ-loop
 returns c =
     let t = c .before in
     let s = begun (t .before) in
-    all-turns (lent (s .args .c) (s .args .rows .now) (s .args .lines .now)) (s .args .ending) (s .args .out .now)
-    (t .loop .k) (t .loop .at) (t .loop .out) (t .before .printed .result) (t .before .printed .ensures) (omega arith) (t .loop .inv .1)
+    let w = all-turns (lent (s .args .c) (s .args .rows .now) (s .args .lines .now)) (s .args .ending) (s .args .out .now)
+    (t .loop .k) (t .loop .at) (t .loop .out) (t .before .printed .result) (t .before .printed .ensures) (omega arith) (t .loop .inv .1) in
+    (w .0, (w .1, entered (t .before .before)))
 
 pub write-spec : {M : Type 1} → statement M
 write-spec =
