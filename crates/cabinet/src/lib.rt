@@ -61,9 +61,9 @@ pub extern "C" fn sorundappa_list(
         (listingWith (now (symbol .entry)) close)) ⌝ }
     ensures types { λ a. ⌜ ListTyped (now (counters .entry)) (listingWith (now (symbol .entry)) close) ⌝ }
 {
-    let words = *counters;
+    let held = *counters;
     let name = *symbol;
-    let before = words::counters(words);
+    let before = words::counters(held);
     let l = listing(name, close);
     let s = book::list(before, rows, lines, l);
     let a = s.answer;
@@ -87,8 +87,8 @@ pub extern "C" fn sorundappa_deliver(
         (arrives number (now (message .entry)))) ⌝ }
     ensures types { λ a. ⌜ DeliverTyped (now (counters .entry)) (now (lines .entry)) (now (message .entry)) ⌝ }
 {
-    let words = *counters;
-    let before = words::counters(words);
+    let held = *counters;
+    let before = words::counters(held);
     let s = book::deliver(before, rows, lines, number, message);
     let a = s.answer;
     let after = s.counters;
@@ -112,9 +112,9 @@ pub extern "C" fn sorundappa_row(
         ≡ rowWords (shown (lent (countersOf (now (counters .entry))) (now (rows .entry)) (now (lines .entry)))
         (now (symbol .entry)) .row) ⌝ }
 {
-    let words = *counters;
+    let held = *counters;
     let name = *symbol;
-    let c = words::counters(words);
+    let c = words::counters(held);
     let s = book::row(c, rows, lines, name);
     let a = s.answer;
     let shown = s.row;
