@@ -1,6 +1,6 @@
 -- A correction, step by step; and what a message does, test by test.
 -- Assumes nothing.
-use mathlib.Core.Path.{_≡_, ap, _∙_}
+use mathlib.Core.Path.{_≡_, refl, ap, _∙_}
 use mathlib.Core.Bool.{true, false}
 use mathlib.Core.List.{List}
 use Prim.Native.Nat.{ℕ}
@@ -22,29 +22,29 @@ corrected-stored m mid out used k r old l e f g h =
 module _ (kind : Kind) (m : List ℕ) (used n : ℕ) (r : Record) (k : ℕ) where
   pub lines-corrected : isCorrection kind ≡ true → corrected m used r k ≡ linesBy kind m used n r k
   unfolding linesBy
-  lines-corrected e = simp e
+  lines-corrected e = simp e refl
 
   pub lines-killed : isCorrection kind ≡ false → namesOld kind ≡ true → withDead m k ≡ linesBy kind m used n r k
   unfolding linesBy
-  lines-killed e f = simp e (simp f)
+  lines-killed e f = simp e (simp f refl)
 
   pub lines-added : namesOld kind ≡ false → makesNew kind ≡ true → withLine m used (madeLine n r) ≡ linesBy kind m used n r k
   unfolding linesBy
-  lines-added f g = simp (f, g)
+  lines-added f g = simp (f, g) refl
 
   pub lines-left : namesOld kind ≡ false → makesNew kind ≡ false → m ≡ linesBy kind m used n r k
   unfolding linesBy
-  lines-left f g = simp (f, g)
+  lines-left f g = simp (f, g) refl
 
 module _ (kind : Kind) (m : List ℕ) (r : Record) (i : ℕ) where
   pub rows-summed : isSummary kind ≡ true → summed m r i ≡ rowsBy kind m r i
   unfolding rowsBy
-  rows-summed e = simp e
+  rows-summed e = simp e refl
 
   pub rows-reported : isSummary kind ≡ false → setsVolume kind ≡ true → reported m r i ≡ rowsBy kind m r i
   unfolding rowsBy
-  rows-reported e f = simp (e, f)
+  rows-reported e f = simp (e, f) refl
 
   pub rows-left : isSummary kind ≡ false → setsVolume kind ≡ false → m ≡ rowsBy kind m r i
   unfolding rowsBy
-  rows-left e f = simp (e, f)
+  rows-left e f = simp (e, f) refl
