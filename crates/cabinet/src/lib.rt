@@ -1,7 +1,7 @@
 // The library as C and Rust link it. Every function takes any counters, any bytes and any slices, and asks nothing of
 // its caller. All but `sorundappa_start`, which answers nothing, and `sorundappa_size`, which tells a size, answer a
-// number of document 01's table. A clause `types` says what the types of the parameters say of what came in, for whoever
-// reasons about calls.
+// number of document 01's table. A clause `types` says what the types of the parameters say of what came in, for
+// whoever reasons about calls.
 // `include/sorundappa.h` says the same in C.
 use answers::Answer;
 use rows::Listing;

@@ -20,19 +20,24 @@ use Rattle.feed.proofs.reading.go_on.Reads as go-on-reads
 
 -- the bytes read so far, and how the reading stands then
 pub data ReadSo (rooms : State) : List ℕ → Standing → Type 1 where
-  at-first : (r : Reading) (piece : List ℕ) → begin-reads.Learnt tt tt r tt → ReadSo rooms [] (standing r (withCounters (r .counters) rooms) piece)
-  -- the call gets the state and the offset that the call before left, and a piece whose bytes to play are those that it left over and new ones
+  at-first : (r : Reading) (piece : List ℕ) → begin-reads.Learnt tt tt r tt
+      → ReadSo rooms [] (standing r (withCounters (r .counters) rooms) piece)
+  -- the call gets the state and the offset that the call before left, and a piece: the bytes to play are those that it left over, and
+  -- new ones behind them
   one-piece : {tape : List ℕ} {s : Standing} → ReadSo rooms tape s
       → (κs : GoLfts) (a : GoArgs κs) (r : Reading) (x : GoExit κs) (new : List ℕ)
-      → goFrom κs a .state ≡ s .state → goFrom κs a .at ≡ s .at → take (goCount κs a) (goFrom κs a .piece) ≡ take (s .held) (s .piece) ++ new
+      → goFrom κs a .state ≡ s .state → goFrom κs a .at ≡ s .at
+      → take (goCount κs a) (goFrom κs a .piece) ≡ take (s .held) (s .piece) ++ new
       → go-on-reads.Learnt κs a r x → ReadSo rooms (tape ++ new) (goLeft κs a r x)
 
 stands-with : {h h′ : Holding} {s s′ : Standing} → h ≡ h′ → s ≡ s′ → StandsAt h s → StandsAt h′ s′
 stands-with {h} {h′} {s} {s′} e f w = subst (λ (x : Standing). StandsAt h′ x) f (subst (λ (x : Holding). StandsAt x s) e w)
 
-pub read-so : {rooms : State} {tape : List ℕ} {s : Standing} → ReadSo rooms tape s → StandsAt (held (withCounters freshCounters rooms) tape) s
+pub read-so : {rooms : State} {tape : List ℕ} {s : Standing} → ReadSo rooms tape s
+    → StandsAt (held (withCounters freshCounters rooms) tape) s
 read-so {rooms} (at-first r piece h) =
-    stands-with (begun-is (withCounters freshCounters rooms)) (ap (λ (x : Reading). standing x (withCounters (x .counters) rooms) piece) (sym h))
+    stands-with (begun-is (withCounters freshCounters rooms))
+    (ap (λ (x : Reading). standing x (withCounters (x .counters) rooms) piece) (sym h))
     (record { state = refl; held = refl; at = refl; stop = refl; front = refl })
 read-so {rooms} (one-piece {tape} {s} t κs a r x new e f g h) =
     let fresh = withCounters freshCounters rooms in

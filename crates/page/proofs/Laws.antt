@@ -9,7 +9,8 @@ use native.Mathlib.Numerals.{add-one}
 use native.Mathlib.Omega.{arith}
 use borrow.Author.Tests.{leb-true, leb-false}
 use lib.Dec.{leb}
-use lib.ListN.{length, take, drop, getD, set, drop-of-length-le, length-drop, List·getD-append, List·getD-eq-default, length-append, length-map}
+use lib.ListN.{length, take, drop, getD, drop-of-length-le, length-drop, length-append, length-map}
+use lib.ListN.{List·getD-append, List·getD-eq-default}
 use lib.Seq.{sets, set-out, length-sets, getD-append-add, take-all}
 use Rattle.octets.specs.Run.{tab}
 use Rattle.octets.proofs.Laws.{tab-snoc, sets-then}

@@ -70,8 +70,12 @@ one-line symbol f l h k =
     let m = conditionMarks (l .condition) in
     either-way Priced (counts symbol l) (dealt f l) f
     (record {
-      high = either-way PriceFits (m .«high_low») (raise (f .high) (l .price)) (f .high) (raised (f .high) (l .price) (h .high) k) (h .high);
-      low = either-way PriceFits (m .«high_low») (lower (f .low) (l .price)) (f .low) (lowered (f .low) (l .price) (h .low) k) (h .low);
+      high =
+          either-way PriceFits (m .«high_low») (raise (f .high) (l .price)) (f .high)
+          (raised (f .high) (l .price) (h .high) k) (h .high);
+      low =
+          either-way PriceFits (m .«high_low») (lower (f .low) (l .price)) (f .low)
+          (lowered (f .low) (l .price) (h .low) k) (h .low);
       last =
           either-way (λ (x : Last). PriceFits (lastOf x)) (m .last) (later (f .last) (l .place) (l .price)) (f .last)
           (renewed (f .last) (l .place) (l .price) (h .last) k) (h .last);
@@ -113,7 +117,8 @@ module _ (s : State) (e : Ending) (h : Printable s e) where
   row-fits i =
       let symbol = part (s .rows) (i * rowCell) 8 in
       let p = priced (s .lines) (h .lines) symbol (s .counters .lines) in
-      let close : be (part (s .rows) (i * rowCell + atClose) 4) < 2 ^ 32 = omega (arith, be-below (s .rows) (i * rowCell + atClose) 4 (h .rows)) in
+      let close : be (part (s .rows) (i * rowCell + atClose) 4) < 2 ^ 32
+      = omega (arith, be-below (s .rows) (i * rowCell + atClose) 4 (h .rows)) in
       record {
         symbol = part-length (s .rows) (i * rowCell) 8;
         last = p .last;

@@ -41,8 +41,8 @@ fn printed(c: Counters, rows: &[u8]) -> usize
 fn row_line(c: Counters, rows: &[u8], lines: &[u8], i: usize, out: &mut [u8]) -> usize
     ensures bytes { λ n. ⌜ now (out .exit) ≡ sets (now (out .entry)) 0
         (rowText (shownRow (lent c (now (rows .entry)) (now (lines .entry))) (rowIn (now (rows .entry)) i))) ⌝ }
-    ensures count { λ n. ⌜ n
-        ≡ length (rowText (shownRow (lent c (now (rows .entry)) (now (lines .entry))) (rowIn (now (rows .entry)) i))) ⌝ }
+    ensures count { λ n. ⌜ n ≡ length
+        (rowText (shownRow (lent c (now (rows .entry)) (now (lines .entry))) (rowIn (now (rows .entry)) i))) ⌝ }
 {
     let kept = rows::get(rows, i);
     let listing = kept.listing;
@@ -92,8 +92,8 @@ pub fn line(
     0
 }
 
-// Writes the whole wall, as far as there is room, and tells how many bytes that are. What it is lent and told is what its
-// types say.
+// Writes the whole wall, as far as there is room, and tells how many bytes that are. The clause `types` says what the
+// types of the parameters say of what came in.
 pub fn write(c: Counters, rows: &[u8], lines: &[u8], ending: Ending, out: &mut [u8]) -> usize
     ensures bytes { λ n. ⌜ now (out .exit)
         ≡ sets (now (out .entry)) 0 (wallOf (lent c (now (rows .entry)) (now (lines .entry))) ending) ⌝ }

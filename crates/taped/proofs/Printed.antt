@@ -9,6 +9,7 @@ use native.Mathlib.Omega.{arith}
 use lib.ListN.{length, take, drop}
 use lib.Seq.{sets, take-append-seam}
 use Rattle.octets.proofs.Laws.{sets-front}
+use Rattle.lines.specs.Lines.{lineLimit}
 use Rattle.rows.specs.Rows.{rowLimit}
 use Rattle.rows.proofs.Slabs.{used-rows-length}
 use Rattle.counters.specs.Counting.{freshCounters}
@@ -69,6 +70,6 @@ module _ {rooms : State} {tape : List ℕ} {s : Standing} (read : ReadSo rooms t
       let count : r ≡ length text = omega (arith, h .1 .0) in
       stands-whole text (writeSpace κs a) (writeLeft κs a x) r (h .0) count most ∙ ap₂ wallOf e f ∙ read-through
 
--- the program's space: 64 rows, 1,920 bytes of room for them
-pub the-space : (rowLimit 1920 ≡ 64) × (wallLongest 64 ≡ 8484)
-the-space = (refl, refl)
+-- the program's rooms are 64 rows and 1,024 lines, and its space is that of the longest wall of 64 rows
+pub the-space : (rowLimit 1920 ≡ 64) × (lineLimit 40960 ≡ 1024) × (wallLongest 64 ≡ 8484)
+the-space = (refl, refl, refl)

@@ -137,7 +137,8 @@ still-once s safe l once = go (eqb (listed s l .answer) 0) refl
     go true e =
         let z : given (listTable (wantedIn s) (sheetOf s) limit l) .number ≡ 0 = sym (answer-by s safe l) ∙ eqb-true _ 0 e in
         let first : wantedIn s ≡ 1 = listable (wantedIn s) (sheetOf s) limit l z .early in
-        let y : given (listTable 1 (sheetOf s) limit l) .number ≡ 0 = subst (λ (n : ℕ). given (listTable n (sheetOf s) limit l) .number ≡ 0) first z in
+        let y : given (listTable 1 (sheetOf s) limit l) .number ≡ 0
+        = subst (λ (n : ℕ). given (listTable n (sheetOf s) limit l) .number ≡ 0) first z in
         subst (λ (x : List Listing). NoRepeat (symbolsIn x)) (taken-then limit (sheetOf s) l y) (sheet-once limit (sheetOf s) (l ∷ []) once)
     go false e = subst (λ (x : List Listing). NoRepeat (symbolsIn x)) (sym (append-nil (sheetOf s))) once
 

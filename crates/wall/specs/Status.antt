@@ -1,5 +1,5 @@
--- How a play went, as the digit that a script is told: 0 if the whole tape was read and played and all was written, 3 if the tape stops, 1 if
--- it could not be read or the wall could not be written.
+-- How a play went, as the digit that a script is told: 0 if the whole tape was read and played and all was written, 3 if the tape stops,
+-- 1 if it could not be read or the wall could not be written.
 -- Assumes nothing.
 use Prim.Native.Nat.{ℕ}
 use mathlib.Core.Bool.{Bool, true, false}

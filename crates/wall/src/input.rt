@@ -1,4 +1,5 @@
-// The tape on standard input, read in pieces of any size. What a piece comes to is told by `feed`; here bytes are moved.
+// The tape on standard input, read in pieces of any size. What a piece comes to is told by `feed`; here bytes are
+// moved.
 use bounds::lesser;
 use feed::reading::Reading;
 use feed::reading::go_on;
@@ -44,8 +45,8 @@ fn is_open(tape: Tape) -> bool {
     }
 }
 
-// One reading, behind what is held, and what can be played of it. Less is held than the piece has room for (`held-short`
-// in crates/feed/proofs/Pieces.antt), so that the lesser of the two is what is held.
+// One reading, behind what is held, and what can be played of it. Less is held than the piece has room for
+// (`held-short` in crates/feed/proofs/Pieces.antt), so that the lesser of the two is what is held.
 fn one(tape: Tape, rows: &mut [u8], lines: &mut [u8], piece: &mut [u8]) -> Tape {
     let reading = tape.reading;
     let from = lesser(reading.held, piece.len());

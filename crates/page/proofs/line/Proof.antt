@@ -2,11 +2,15 @@
 -- Assumes nothing.
 use mathlib.Core.Path.{refl}
 use native.Mathlib.Omega.{arith}
-use Rattle.book.specs.State.{lent}
+use Rattle.book.specs.State.{State, lent}
 use Rattle.page.proofs.Laws.{as-line, header-is, row-is, closing-is, end-is, none-is}
 use borrow.Author.Needs.{needs}
 use Rattle.page.proofs.line.Statement.{statement}
 use Rattle.page.proofs.line.Tie as tie
+
+-- what the call is lent
+abbrev lent-to : tie.Start → State
+lent-to s = lent (s .args .c) (s .args .rows .now) (s .args .lines .now)
 
 printed-requires : tie.Need-printed-requires
 printed-requires c κs = search needs
@@ -19,8 +23,9 @@ same-length c = search needs
 
 returns : tie.Need-returns
 returns c =
-    let s = c .before .before .before .before .before .before .before .before .before in
-    as-line _ _ _ _ _ (header-is (lent (s .args .c) (s .args .rows .now) (s .args .lines .now)) (s .args .ending) (s .args .k) (c .before .before .before .before .if1 .taken)) (c .before .before .header .ensures)
+    let asked = c .before .before .before .before in
+    let s = asked .before .before .before .before .before in
+    as-line _ _ _ _ _ (header-is (lent-to s) (s .args .ending) (s .args .k) (asked .if1 .taken)) (c .before .before .header .ensures)
 
 left-requires : tie.Need-left-requires
 left-requires c κs = search needs
@@ -38,7 +43,7 @@ returns-2 c =
     let counted = asked .before .before in
     let s = counted .before .before .before .before in
     as-line _ _ _ _ _
-    (row-is (lent (s .args .c) (s .args .rows .now) (s .args .lines .now)) (s .args .ending) (s .args .k) (found .left .result)
+    (row-is (lent-to s) (s .args .ending) (s .args .k) (found .left .result)
     (found .left .ensures) (asked .before .if1 .left) (omega (arith, asked .if2 .taken, counted .printed .ensures)))
     (c .before .before .row-line .ensures)
 
@@ -57,7 +62,8 @@ returns-3 c =
     let counted = asked .before .before .before in
     let s = counted .before .before .before .before in
     as-line _ _ _ _ _
-    (closing-is (lent (s .args .c) (s .args .rows .now) (s .args .lines .now)) (s .args .ending) (s .args .k) (counted .printed .result) (counted .printed .ensures) (asked .if3 .taken))
+    (closing-is (lent-to s) (s .args .ending) (s .args .k) (counted .printed .result) (counted .printed .ensures)
+    (asked .if3 .taken))
     (c .before .before .closing .ensures)
 
 add-if4 : tie.Need-add-if4
@@ -75,7 +81,8 @@ returns-4 c =
     let counted = asked .before .before .before .before in
     let s = counted .before .before .before .before in
     as-line _ _ _ _ _
-    (end-is (lent (s .args .c) (s .args .rows .now) (s .args .lines .now)) (s .args .ending) (s .args .k) (counted .printed .result) (counted .printed .ensures) (asked .if4 .taken))
+    (end-is (lent-to s) (s .args .ending) (s .args .k) (counted .printed .result) (counted .printed .ensures)
+    (asked .if4 .taken))
     (c .before .before .end-line .ensures)
 
 returns-5 : tie.Need-returns-5
@@ -83,7 +90,7 @@ returns-5 c =
     let counted = c .before .before .before .before in
     let s = counted .before .before .before .before in
     as-line _ _ _ _ _
-    (none-is (lent (s .args .c) (s .args .rows .now) (s .args .lines .now)) (s .args .ending) (s .args .k)
+    (none-is (lent-to s) (s .args .ending) (s .args .k)
     (omega (arith, c .if4 .left, c .before .if3 .left, c .before .before .if2 .left, counted .printed .ensures)))
     (refl, refl)
 

@@ -5,7 +5,7 @@ use mathlib.Core.Path.{_≡_, refl}
 use native.Mathlib.Omega.{arith}
 use borrow.Author.Needs.{needs}
 use lib.ListN.{length}
-use Rattle.book.specs.State.{lent}
+use Rattle.book.specs.State.{State, lent}
 use Rattle.page.specs.Printable.{Printable}
 use Rattle.page.proofs.Fitting.{ending-good}
 use Rattle.page.proofs.Laws.{rows-most, Written, none-yet, within, next-turn, all-turns}
@@ -36,21 +36,31 @@ printed-requires : tie.Need-printed-requires Inv-loop μ-loop
 printed-requires c κs = tt
 
 few : (c : tie.After-printed Inv-loop μ-loop) → c .printed .result ≤ 256
-few c = rows-most (c .before .before .before .before .args .rows .now) (c .before .before .before .before .args .c .rows) _ (c .printed .ensures)
+few c =
+    let s = c .before .before .before .before in
+    rows-most (s .args .rows .now) (s .args .c .rows) (c .printed .result) (c .printed .ensures)
 
 add-end : tie.Need-add-end Inv-loop μ-loop
 add-end c = search (needs, few c)
 
+-- where the call began, and what it is lent
 abbrev begun : tie.After-printed Inv-loop μ-loop → tie.Start Inv-loop μ-loop
 begun c = c .before .before .before .before
 
+abbrev lent-to : tie.Start Inv-loop μ-loop → State
+lent-to s = lent (s .args .c) (s .args .rows .now) (s .args .lines .now)
+
 loop-holds : tie.Need-loop-holds Inv-loop μ-loop
-loop-holds c = (omega arith, none-yet (lent (begun c .args .c) (begun c .args .rows .now) (begun c .args .lines .now)) (begun c .args .ending) (begun c .args .out .now))
+loop-holds c =
+    let s = begun c in
+    (omega arith, none-yet (lent-to s) (s .args .ending) (s .args .out .now))
 
 -- the place lies within the space
 inside : (c : tie.At-loop Inv-loop μ-loop)
     → let s = begun (c .before) in (c .loop .at ≤ length (c .loop .out)) × (length (c .loop .out) ≡ length (s .args .out .now))
-inside c = within (lent (begun (c .before) .args .c) (begun (c .before) .args .rows .now) (begun (c .before) .args .lines .now)) (begun (c .before) .args .ending) (begun (c .before) .args .out .now) (c .loop .k) (c .loop .at) (c .loop .out) (c .loop .inv .1)
+inside c =
+    let s = begun (c .before) in
+    within (lent-to s) (s .args .ending) (s .args .out .now) (c .loop .k) (c .loop .at) (c .loop .out) (c .loop .inv .1)
 
 sub-line : tie.Need-sub-line Inv-loop μ-loop
 sub-line c = inside (c .before) .0
@@ -87,8 +97,9 @@ loop-again c =
     let t = turn (c .before) in
     let s = begun (t .before) in (
       omega arith,
-      next-turn (lent (s .args .c) (s .args .rows .now) (s .args .lines .now)) (s .args .ending) (s .args .out .now)
-          (t .loop .k) (t .loop .at) (t .loop .out) (t .loop .inv .1) _ _ _ _ refl (c .before .before .before .line .ensures) (c .lesser .ensures),
+      next-turn (lent-to s) (s .args .ending) (s .args .out .now)
+          (t .loop .k) (t .loop .at) (t .loop .out) (t .loop .inv .1) _ _ _ _ refl
+          (c .before .before .before .line .ensures) (c .lesser .ensures),
     )
 
 same-length : tie.Need-same-length Inv-loop μ-loop
@@ -98,7 +109,7 @@ returns : tie.Need-returns Inv-loop μ-loop
 returns c =
     let t = c .before in
     let s = begun (t .before) in
-    let w = all-turns (lent (s .args .c) (s .args .rows .now) (s .args .lines .now)) (s .args .ending) (s .args .out .now)
+    let w = all-turns (lent-to s) (s .args .ending) (s .args .out .now)
     (t .loop .k) (t .loop .at) (t .loop .out) (t .before .printed .result) (t .before .printed .ensures) (omega arith) (t .loop .inv .1) in
     (w .0, (w .1, entered (t .before .before)))
 
