@@ -14,7 +14,7 @@ use Rattle.tape.specs.declared.Stop.{Stop}
 use Rattle.feed.specs.declared.Fed.{Fed}
 use Rattle.feed.specs.Feeding.{Feeding, cameOf, fed}
 use Rattle.feed.specs.declared.reading.Reading.{Reading}
-use Rattle.feed.specs.Reading.{nothingRead, Standing, standing, gone}
+use Rattle.feed.specs.Reading.{nothingRead, Standing, standing, gone, GoneTyped}
 use Rattle.feed.proofs.feed as feed
 use Rattle.feed.proofs.feed.Reads as feed-reads
 use Rattle.feed.proofs.feed.Kinds as feed-kinds
@@ -100,7 +100,7 @@ module _ (κs : GoLfts) (a : GoArgs κs) where
   pub go-on-one : (r r′ : Reading) (x x′ : GoExit κs) → go-on-reads.Learnt κs a r x → go-on-reads.Learnt κs a r′ x′
       → (r ≡ r′) × (goLeft r x ≡ goLeft r′ x′)
   go-on-one r r′ x x′ h h′ =
-      let e : goLeft r x ≡ goLeft r′ x′ = h ∙ sym h′ in (
+      let e : goLeft r x ≡ goLeft r′ x′ = h .0 ∙ sym (h′ .0) in (
         same (r .counters) (r .held) (r .at) (r .stop)
             (ap (λ (y : Standing). y .state .counters) e)
             (ap (λ (y : Standing). y .held) e)
@@ -114,5 +114,6 @@ module _ (κs : GoLfts) (a : GoArgs κs) where
       same c n k w e f g q = rw (e, f, g, q)
 
   pub go-on-says : (r : Reading) (x : GoExit κs)
-      → go-on-reads.Learnt κs a r x ≡ (goLeft r x ≡ gone (goFrom .at) (goFrom .state) goCount (goFrom .piece))
+      → go-on-reads.Learnt κs a r x
+      ≡ ((goLeft r x ≡ gone (goFrom .at) (goFrom .state) goCount (goFrom .piece)) × GoneTyped (goFrom .state .lines) (goFrom .piece))
   go-on-says r x = refl

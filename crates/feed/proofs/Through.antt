@@ -5,9 +5,12 @@ use Prim.Native.Nat.{ℕ}
 use mathlib.Core.Path.{_≡_, refl, ap, sym, subst, _∙_}
 use mathlib.Core.List.{List, [], _++_}
 use lib.ListN.{take}
+use Rattle.octets.specs.Run.{Bytes}
+use Rattle.octets.proofs.Bytes.{none-bytes, append-bytes}
 use Rattle.counters.specs.Counting.{freshCounters}
 use Rattle.book.specs.State.{State, withCounters}
 use Rattle.tape.specs.Playing.{Holding, begun, held, feed}
+use Rattle.tape.proofs.Tapes.{bytes-behind, bytes-take}
 use Rattle.tape.proofs.Pieces.{feed-one, begun-is}
 use Rattle.feed.specs.declared.reading.Reading.{Reading}
 use Rattle.feed.specs.Reading.{Standing, standing, gone, StandsAt}
@@ -45,4 +48,13 @@ read-so {rooms} (one-piece {tape} {s} t κs a r x new e f g h) =
     let q = goes-on (held fresh tape) new (goFrom κs a .at) (goCount κs a) (goFrom κs a .piece)
     (g ∙ ap (λ (l : List ℕ). l ++ new) (w .front)) (f ∙ w .at) in
     stands-with (feed-one fresh tape new)
-    (ap (λ (y : State). gone (goFrom κs a .at) y (goCount κs a) (goFrom κs a .piece)) (sym (w .state) ∙ sym e) ∙ sym h) q
+    (ap (λ (y : State). gone (goFrom κs a .at) y (goCount κs a) (goFrom κs a .piece)) (sym (w .state) ∙ sym e) ∙ sym (h .0)) q
+
+-- the room for lines was bytes at first and the tape is bytes, by the types of the calls; where there was none, by those of the next
+pub bytes-read : {rooms : State} {tape : List ℕ} {s : Standing} → ReadSo rooms tape s → Bytes (s .state .lines)
+    → Bytes (rooms .lines) × Bytes tape
+bytes-read (at-first r piece h) b = (b, none-bytes)
+bytes-read (one-piece {tape} {s} t κs a r x new e f g h) b =
+    let rest = bytes-read t (subst (λ (y : State). Bytes (y .lines)) e (h .1 .lines)) in
+    let played = subst Bytes g (bytes-take (goFrom κs a .piece) (goCount κs a) (h .1 .piece)) in
+    (rest .0, append-bytes tape new (rest .1) (bytes-behind (take (s .held) (s .piece)) new played))

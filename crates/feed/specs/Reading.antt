@@ -4,6 +4,7 @@ use Prim.Native.Nat.{ℕ, _+_, _%_, _^_}
 use mathlib.Core.List.{List}
 use lib.ListN.{length, take}
 use mathlib.Core.Path.{_≡_}
+use Rattle.octets.specs.Run.{Bytes}
 use Rattle.counters.specs.Counting.{freshCounters}
 use Rattle.book.specs.State.{State}
 use Rattle.tape.specs.declared.Stop.{Stop}
@@ -52,3 +53,8 @@ pub record StandsAt (h : Holding) (s : Standing) : Type 0 where
   pub at : s .at ≡ wrapped (h .so .used)
   pub stop : s .stop ≡ h .so .stop
   pub front : take (s .held) (s .piece) ≡ h .left
+
+-- what the types say of what a call of `go_on` is lent: the room for lines and the piece are bytes
+pub record GoneTyped (room bytes : List ℕ) : Type 0 where
+  pub lines : Bytes room
+  pub piece : Bytes bytes

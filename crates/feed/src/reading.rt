@@ -3,7 +3,7 @@ use counters::Counters;
 use tape::Stop;
 ghost use mathlib.Core.Path.{_≡_};
 ghost use Rattle.book.specs.State.{lent};
-ghost use Rattle.feed.specs.Reading.{nothingRead, standing, gone};
+ghost use Rattle.feed.specs.Reading.{nothingRead, standing, gone, GoneTyped};
 
 // The book's counters, how many bytes of an entry that is not whole yet stand at the front of the piece, the offset on
 // the tape of the first byte that is not played, modulo 2 to the 64, and why the play stands there.
@@ -26,10 +26,12 @@ pub fn begin() -> Reading
     }
 }
 
-// Goes on with the first n bytes of a piece: those that were held, and new ones behind them.
+// Goes on with the first n bytes of a piece: those that were held, and new ones behind them. The clause `types` says
+// what the types of the parameters say of what came in.
 pub fn go_on(r: Reading, rows: &mut [u8], lines: &mut [u8], piece: &mut [u8], n: usize) -> Reading
-    ensures { λ t. ⌜ standing t (lent (t .counters) (now (rows .exit)) (now (lines .exit))) (now (piece .exit))
+    ensures stands { λ t. ⌜ standing t (lent (t .counters) (now (rows .exit)) (now (lines .exit))) (now (piece .exit))
         ≡ gone (r .at) (lent (r .counters) (now (rows .entry)) (now (lines .entry))) n (now (piece .entry)) ⌝ }
+    ensures types { λ t. ⌜ GoneTyped (now (lines .entry)) (now (piece .entry)) ⌝ }
 {
     let before = r.counters;
     let at = r.at;

@@ -112,9 +112,12 @@ row-text s i kept f w e g h = ap rowText (h ∙ ap (shownOf kept) g ∙ ap (show
 abbrev pub soFar : State → Ending → ℕ → List ℕ
 soFar s e k = joined (tab (lineOf s e) 0 k)
 
+pub joined-append : (xs ys : List (List ℕ)) → joined (xs ++ ys) ≡ joined xs ++ joined ys
+joined-append [] ys = refl
+joined-append (x ∷ xs) ys = ap (λ (l : List ℕ). x ++ l) (joined-append xs ys) ∙ sym (append-assoc x (joined xs) (joined ys))
+
 joined-snoc : (xs : List (List ℕ)) (y : List ℕ) → joined (xs ++ (y ∷ [])) ≡ joined xs ++ y
-joined-snoc [] y = append-nil y
-joined-snoc (x ∷ xs) y = ap (λ (l : List ℕ). x ++ l) (joined-snoc xs y) ∙ sym (append-assoc x (joined xs) y)
+joined-snoc xs y = joined-append xs (y ∷ []) ∙ ap (λ (l : List ℕ). joined xs ++ l) (append-nil y)
 
 pub one-more : (s : State) (e : Ending) (k : ℕ) → soFar s e (k + 1) ≡ soFar s e k ++ lineOf s e k
 one-more s e k =

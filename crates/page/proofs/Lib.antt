@@ -1,3 +1,4 @@
+pub mod ByHand
 pub mod Laws
 pub mod Fitting
 pub mod WallLongest

@@ -3,7 +3,7 @@
 use Prim.Native.Nat.{ℕ, zero, suc, _+_, _*_, _^_, _≤_, _<_, min}
 use mathlib.Core.Path.{_≡_, refl, ap, sym, subst, _∙_}
 use mathlib.Core.Bool.{Bool, true, false, cond}
-use mathlib.Core.List.{List, [], _∷_, _++_, map, append-assoc}
+use mathlib.Core.List.{List, [], _∷_, _++_, map}
 use native.Mathlib.Nat.{suc-mul}
 use native.Mathlib.Omega.{arith}
 use lib.Dec.{eqb, ltb}
@@ -43,6 +43,7 @@ use Rattle.tape.specs.Playing.{joined}
 use Rattle.page.specs.declared.Ending.{Ending}
 use Rattle.page.specs.declared.Ending.the-variants.{Complete, StopsAt}
 use Rattle.page.specs.Page.{shownRow, rowLines, endLines, wallLines, wallOf}
+use Rattle.page.proofs.Laws.{joined-append}
 use Rattle.page.specs.Printable.{Printable, EndingFits, wallLongest}
 
 -- ---- the figures of lines whose prices have 32 bits
@@ -106,10 +107,6 @@ unfolding reportedAt
 reported-small m at b =
     either-way ReportedFits (eqb (getD m (at + atReported) 0) 1) (Volume (be (part m (at + atVolume) 8))) NotSet
     (omega (arith, be-below m (at + atVolume) 8 b)) tt
-
-joined-append : (xs ys : List (List ℕ)) → joined (xs ++ ys) ≡ joined xs ++ joined ys
-joined-append [] ys = refl
-joined-append (x ∷ xs) ys = ap (λ (l : List ℕ). x ++ l) (joined-append xs ys) ∙ sym (append-assoc x (joined xs) (joined ys))
 
 module _ (s : State) (e : Ending) (h : Printable s e) where
   row-fits : (i : ℕ) → RowFits (shownRow s (rowAt (s .rows) i))

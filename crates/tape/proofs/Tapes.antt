@@ -1,6 +1,6 @@
 -- Each run of bytes is entries and a rest in exactly one way, and the play of it is what the entries do, in order.
 -- Assumes nothing.
-use mathlib.Core.Path.{_≡_, refl, ap, sym, _∙_}
+use mathlib.Core.Path.{_≡_, refl, ap, sym, subst, _∙_}
 use mathlib.Core.Bool.{Bool, true, false}
 use mathlib.Core.List.{List, [], _∷_, _++_, append-nil, append-assoc}
 use Prim.Native.Nat.{ℕ, zero, suc, _+_, _≤_, _<_, _^_}
@@ -313,14 +313,12 @@ play-split s b es rest h t =
     let g : Bytes (tapeOf es ++ rest) = λ i. rw (t .bytes) at (h i) in
     ap (played s) (t .bytes) ∙ play-entries s es rest (t .each) (ends-stops rest (bytes-behind (tapeOf es) rest g) (t .ends))
 
-some-bytes : (e : Entry) → length (entryBytes e) ≡ 0 → ⊥
-unfolding entryBytes
-some-bytes (Lists l) q = omega arith
-some-bytes (Delivers k a) q = omega arith
+-- entries, and behind them something at whose head no entry stands
+pub cut-tape : (es : List Entry) (rest : List ℕ) (w : Stop) → EntriesFit es → headOf rest ≡ Stops w → Tape (tapeOf es ++ rest) es rest
+cut-tape es rest w f h =
+    record { bytes = refl; each = f; ends = λ e more z q. never (sym h ∙ ap headOf q ∙ entry-head e more z) }
 
 -- entries and nothing behind them
 pub whole-tape : (es : List Entry) → EntriesFit es → Tape (tapeOf es) es []
-whole-tape es f = record { bytes = sym (append-nil (tapeOf es)); each = f; ends = λ e more z q. none e more q }
-  where
-    none : (e : Entry) (more : List ℕ) → [] ≡ entryBytes e ++ more → ⊥
-    none e more q = some-bytes e (omega (arith, ap length q, length-append (entryBytes e) more))
+unfolding headOf
+whole-tape es f = subst (λ (b : List ℕ). Tape b es []) (append-nil (tapeOf es)) (cut-tape es [] Ended f refl)

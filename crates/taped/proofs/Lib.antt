@@ -1,3 +1,3 @@
 pub mod TapeDay
-pub mod Printed
 pub mod WallSaid
+pub mod Printed

@@ -19,6 +19,8 @@ use Rattle.show.specs.Showing.{shownOf}
 use Rattle.counters.specs.Counting.{lastNumber, freshCounters}
 use Rattle.print.specs.Texts.{headerText, rowText, closingText}
 use Rattle.book.specs.State.{State, withCounters, rowsIn, linesIn}
+use Rattle.book.specs.Calls.{listed, delivered}
+use Rattle.book.proofs.Touches.{touches-only}
 use Rattle.tape.specs.Entries.{Entry, Lists, Delivers, entryBytes, EntryFits, EntriesFit, tapeOf, Tape, endOf}
 use Rattle.tape.specs.Playing.{acted, actedAll, Play, played, joined}
 use Rattle.tape.proofs.Tapes.{play-split, bytes-behind, bytes-take}
@@ -52,6 +54,12 @@ asked-fits (Delivers k a ∷ es) f b = (
   bytes-behind (k ∷ digits 4 (a .number)) (a .message) (bytes-before (entryBytes (Delivers k a)) (tapeOf es) b),
   asked-fits es (f .1) (bytes-behind (entryBytes (Delivers k a)) (tapeOf es) b),
 )
+
+-- no entry changes the length of the room for rows
+pub acted-long : (s : State) (e : Entry) → length (acted s e .rows) ≡ length (s .rows)
+unfolding acted
+acted-long s (Lists l) = touches-only s .listedLength l
+acted-long s (Delivers k a) = touches-only s .rowsLength a
 
 -- ---- the wall of a book that is the clerk's
 

@@ -23,7 +23,11 @@ same-length-3 c = search needs
 returns : tie.Need-returns
 returns c =
     let called = c .before .before .before .before .before .before .before .before in
-    gone-is (called .feed .result) _ _ _ _ _ _ (called .feed .ensures) _ (c .wrapping-add-u64 .ensures)
+    let known = called .before .before .before .before .before in
+    let fed = called .feed in (
+      gone-is (fed .result) _ _ _ _ _ _ (fed .ensures) _ (c .wrapping-add-u64 .ensures),
+      record { lines = λ i. known .before .slice-known2 .given i .fits; piece = λ i. known .slice-known3 .given i .fits },
+    )
 
 pub go-on-spec : {M : Type 1} → statement M
 go-on-spec =
