@@ -1,29 +1,38 @@
--- The whole output of day W: the three lines that document 01 prints, byte for byte, in the program's room, whatever that held before.
+-- The whole output of day W: the three lines that document 01 prints, byte for byte, in the program's room, whatever that held before; and
+-- of its tape with a byte more and with a byte less.
 -- Assumes nothing.
-use Prim.Native.Nat.{ℕ, zero, suc, _<_}
-use mathlib.Core.Path.{_≡_, refl, ap, ap₂, _∙_}
+use Prim.Native.Nat.{ℕ, zero, suc, _^_, _≤_, _<_}
+use mathlib.Core.Path.{_≡_, refl, ap₂, sym, subst, _∙_}
 use mathlib.Core.Bool.{Bool, true, _&&_, and-eq-true-iff}
-use mathlib.Core.List.{List, [], _∷_}
-use native.Mathlib.Omega.{arith}
+use mathlib.Core.List.{List, [], _∷_, _++_}
 use borrow.Author.Tests.{ltb-true}
 use lib.Dec.{ltb, lit<, lit≤}
-use lib.ListN.{length, getD}
+use lib.ListN.{length, take, getD}
 use Rattle.octets.specs.Run.{Bytes}
 use Rattle.lines.specs.Lines.{lineLimit}
 use Rattle.rows.specs.Rows.{rowLimit}
 use Rattle.book.specs.State.{State}
-use Rattle.tape.specs.Entries.{EntriesFit}
-use Rattle.tape.proofs.Tapes.{whole-tape}
-use Rattle.page.specs.declared.Ending.the-variants.{Complete}
-use Rattle.page.specs.Page.{wallText}
+use Rattle.tape.specs.Entries as Entries
+use Rattle.tape.specs.Entries.{EntriesFit, tapeOf}
+use Rattle.tape.specs.declared.Stop.the-variants.{NoKind, CutShort}
+use Rattle.tape.proofs.Tapes.{whole-tape, cut-tape}
+use Rattle.page.specs.declared.Ending.{Ending}
+use Rattle.page.specs.declared.Ending.the-variants.{Complete, StopsAt}
+use Rattle.feed.specs.Reading.{Standing}
+use Rattle.feed.proofs.Through.{ReadSo}
+use Rattle.page.specs.Page.{endingAt, wallText}
+use Rattle.page.specs.Printable.{wallLongest}
+use Rattle.page.proofs.Promise.{WriteLfts, WriteArgs, WriteExit, writeFrom, writeEnding, writeSpace, writeLeft}
+use Rattle.page.proofs.write.Reads as write-reads
 use Rattle.clerk.specs.Clerk.{clerkSheet}
 use Rattle.clerk.specs.Arrivals.{Largest, numbers, Copies, upto}
 use Rattle.clerk.specs.States.{arrivalsIn}
 use Rattle.clerk.proofs.InOrder.{got, largest-got}
 use Rattle.taped.specs.ClerksWall.{clerkWall, askedIn}
 use Rattle.taped.proofs.TapeDay.{tape-day}
+use Rattle.taped.proofs.Printed.{wall-printed}
 use Rattle.trials.specs.Days.{w, alone, dayOf}
-use Rattle.trials.specs.DayW.{entriesW, tapeW, wallW, printedW}
+use Rattle.trials.specs.DayW.{entriesW, tapeW, entriesCut, restCut, wallW, printedW, stoppedW, cutW}
 
 -- a list whose numbers are tested one by one is bytes
 small : List ℕ → Bool
@@ -40,6 +49,7 @@ w-bytes : Bytes tapeW
 unfolding small tapeW
 w-bytes = small-bytes tapeW refl
 
+-- a copy of the day's message of its number
 w-copies : Copies (dayOf w) 6 (arrivalsIn (askedIn entriesW))
 unfolding tapeW
 w-copies = (
@@ -64,14 +74,82 @@ w-fits = (
   ),
 )
 
-clerks-text : wallW ≡ printedW
-unfolding wallW
-clerks-text = refl
+cut-fits : EntriesFit entriesCut
+unfolding restCut
+cut-fits = (
+  (refl, lit< tt),
+  (
+    (refl, lit< tt, lit< tt),
+    ((refl, lit< tt, lit< tt), ((refl, lit< tt, lit< tt), ((refl, lit< tt, lit< tt), ((refl, lit< tt, lit< tt), tt)))),
+  ),
+)
 
-pub w-whole : (rooms : State) → Bytes (rooms .lines) → length (rooms .rows) ≡ 1920 → length (rooms .lines) ≡ 40960
-    → wallText rooms tapeW ≡ printedW
-unfolding tapeW wallW
-w-whole rooms bl r l =
-    tape-day (dayOf w) 6 6 (lit≤ tt) rooms bl tapeW w-bytes entriesW [] (whole-tape entriesW w-fits) w-copies w-largest
-    ∙ ap₂ (λ (r l : ℕ). clerkWall (clerkSheet (rowLimit r) (alone 250000)) (lineLimit l) (upto (dayOf w) 6) Complete) r l
-    ∙ clerks-text
+cut-copies : Copies (dayOf w) 6 (arrivalsIn (askedIn entriesCut))
+unfolding restCut
+cut-copies = (
+  (lit≤ tt, λ h. refl),
+  ((lit≤ tt, λ h. refl), ((lit≤ tt, λ h. refl), ((lit≤ tt, λ h. refl), ((lit≤ tt, λ h. refl), tt)))),
+)
+
+-- that is W's tape without its last byte
+pub cut-is : tapeOf entriesCut ++ restCut ≡ take 295 tapeW
+unfolding restCut
+cut-is = refl
+
+-- what the clerk prints
+w-clerks : wallW 6 Complete ≡ printedW
+unfolding wallW
+w-clerks = refl
+
+stops-clerks : wallW 6 (StopsAt 296) ≡ stoppedW
+unfolding wallW
+stops-clerks = refl
+
+cut-clerks : wallW 5 (StopsAt 224) ≡ cutW
+unfolding wallW
+cut-clerks = refl
+
+w-short : length tapeW < 2 ^ 64
+unfolding tapeW
+w-short = lit< tt
+
+-- the program's room, whatever it held before
+module _ (rooms : State) (bl : Bytes (rooms .lines)) (rowsLong : length (rooms .rows) ≡ 1920) (linesLong : length (rooms .lines) ≡ 40960) where
+  in-room : (n : ℕ) (e : Ending)
+      → clerkWall (clerkSheet (rowLimit (length (rooms .rows))) (alone 250000)) (lineLimit (length (rooms .lines))) (upto (dayOf w) n) e
+      ≡ wallW n e
+  unfolding wallW
+  in-room n e = ap₂ (λ (r l : ℕ). clerkWall (clerkSheet (rowLimit r) (alone 250000)) (lineLimit l) (upto (dayOf w) n) e) rowsLong linesLong
+
+  -- the whole output of day W
+  pub w-whole : wallText rooms tapeW ≡ printedW
+  unfolding tapeW wallW
+  w-whole =
+      tape-day (dayOf w) 6 6 (lit≤ tt) rooms bl tapeW w-bytes entriesW [] (whole-tape entriesW w-fits) w-copies w-largest
+      ∙ in-room 6 Complete
+      ∙ w-clerks
+
+  -- and of its tape with a byte behind it that is no kind
+  pub w-stops : wallText rooms (tapeW ++ (0 ∷ [])) ≡ stoppedW
+  unfolding tapeW wallW Entries.headOf Entries.bodyLength small
+  w-stops =
+      tape-day (dayOf w) 6 6 (lit≤ tt) rooms bl (tapeW ++ (0 ∷ [])) (small-bytes (tapeW ++ (0 ∷ [])) refl) entriesW (0 ∷ [])
+      (cut-tape entriesW (0 ∷ []) NoKind w-fits refl) w-copies w-largest
+      ∙ in-room 6 (StopsAt 296)
+      ∙ stops-clerks
+
+  -- and of its tape without the last byte
+  pub w-cut : wallText rooms (tapeOf entriesCut ++ restCut) ≡ cutW
+  unfolding restCut wallW Entries.headOf Entries.bodyLength small got
+  w-cut =
+      tape-day (dayOf w) 6 5 (lit≤ tt) rooms bl (tapeOf entriesCut ++ restCut) (small-bytes (tapeOf entriesCut ++ restCut) refl) entriesCut
+      restCut (cut-tape entriesCut restCut CutShort cut-fits refl) cut-copies (largest-got (numbers (arrivalsIn (askedIn entriesCut))))
+      ∙ in-room 5 (StopsAt 224)
+      ∙ cut-clerks
+
+  -- what the program's calls write of W's tape, however it is cut into pieces
+  pub w-by-calls : {s : Standing} → ReadSo rooms tapeW s → (κs : WriteLfts) (a : WriteArgs κs) (r : ℕ) (x : WriteExit κs)
+      → write-reads.Learnt κs a r x → writeFrom κs a ≡ s .state → writeEnding κs a ≡ endingAt (s .stop) (s .at)
+      → 8484 ≤ length (writeSpace κs a) → take r (writeLeft κs a x) ≡ printedW
+  w-by-calls read κs a r x h e f room =
+      wall-printed read w-short κs a r x h e f (subst (λ (n : ℕ). wallLongest (rowLimit n) ≤ length (writeSpace κs a)) (sym rowsLong) room) ∙ w-whole

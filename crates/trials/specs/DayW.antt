@@ -5,13 +5,14 @@ use mathlib.Core.List.{List, [], _∷_}
 use Rattle.book.specs.State.{arrives}
 use Rattle.tape.specs.Entries as Entries
 use Rattle.tape.specs.Playing as Playing
-use Rattle.tape.specs.Entries.{Entry, Lists, Delivers, tapeOf}
+use lib.ListN.{take}
+use Rattle.tape.specs.Entries.{Entry, Lists, Delivers, entryBytes, tapeOf}
 use Rattle.tape.specs.Playing.{Play, played}
 use Rattle.decimal.specs.Letters.{letters}
 use Rattle.decimal.specs.Decimal as Decimal
 use Rattle.decimal.specs.Amount as Amount
 use Rattle.print.specs.Texts as Texts
-use Rattle.page.specs.declared.Ending.the-variants.{Complete}
+use Rattle.page.specs.declared.Ending.{Ending}
 use Rattle.clerk.specs.Clerk.{clerkSheet}
 use Rattle.clerk.specs.Arrivals.{upto}
 use Rattle.taped.specs.ClerksWall as ClerksWall
@@ -40,14 +41,34 @@ playW = played freshRooms tapeW
 
 -- ---- the wall of W
 
--- the wall that the clerk prints of it, in the program's room: 64 rows and 1,024 lines
-unfoldable pub wallW : List ℕ
-unfolding clerkShows ClerksWall.clerkWall Texts.headerText Texts.rowText Texts.closingText Amount.amountText Decimal.digitCount
-    Decimal.lowest Decimal.decimal
-wallW = clerkWall (clerkSheet 64 (alone 250000)) 1024 (upto (dayOf w) 6) Complete
+-- the wall that the clerk prints of its first n messages, in the program's room: 64 rows and 1,024 lines
+unfoldable pub wallW : ℕ → Ending → List ℕ
+unfolding clerkShows ClerksWall.clerkWall Texts.headerText Texts.rowText Texts.closingText Texts.stopText Amount.amountText
+    Decimal.digitCount Decimal.lowest Decimal.decimal
+wallW n e = clerkWall (clerkSheet 64 (alone 250000)) 1024 (upto (dayOf w) n) e
 
 -- as document 01 prints it
 abbrev pub printedW : List ℕ
 printedW =
     letters
     "SYMBOL LAST HIGH LOW NET VOLUME TRADES CONSOL\nABCD 25.2500 25.2500 25.2500 +0.2500 170 2 600\nTAKEN 6 REFUSED 0 WANTED 7\n"
+
+-- W, and behind it a byte that is no kind: the same lines, and where the tape stops
+abbrev pub stoppedW : List ℕ
+stoppedW =
+    letters
+    "SYMBOL LAST HIGH LOW NET VOLUME TRADES CONSOL\nABCD 25.2500 25.2500 25.2500 +0.2500 170 2 600\nTAKEN 6 REFUSED 0 WANTED 7\nTAPE STOPS AT 296\n"
+
+-- W without its last byte: the correction is not played, and the tape stops at its kind byte
+abbrev pub cutW : List ℕ
+cutW =
+    letters
+    "SYMBOL LAST HIGH LOW NET VOLUME TRADES CONSOL\nABCD 25.1000 25.1000 25.1000 +0.1000 150 2 500\nTAKEN 5 REFUSED 0 WANTED 6\nTAPE STOPS AT 224\n"
+
+-- the first six entries, and the seventh without its last byte
+unfoldable pub entriesCut : List Entry
+entriesCut = take 6 entriesW
+
+unfoldable pub restCut : List ℕ
+unfolding tapeW entriesCut
+restCut = take 71 (entryBytes (Delivers 67 (arrives 6 (dayOf w 6))))

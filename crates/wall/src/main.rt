@@ -1,22 +1,23 @@
-// Plays the tape on standard input, piece by piece, and prints the wall once it ends.
+// Plays the tape on standard input, piece by piece, and prints the wall once it ends. A tape that could not be read to
+// its end has no wall: it would look like a whole day's.
 mod input;
 mod paper;
+mod rooms;
 mod status;
 
-// Room for 64 rows and 1,024 lines.
-const ROWS: usize = 64;
+use input::Rest;
 
-const LINES: usize = 1024;
-
-// What the bytes hold at first is never read.
 fn main() {
-    let mut rows = [0u8; ROWS * rows::CELL];
-    let mut lines = [0u8; LINES * lines::CELL];
+    let mut rows = rooms::for_rows();
+    let mut lines = rooms::for_lines();
     let tape = input::all(&mut rows, &mut lines);
     let reading = tape.reading;
     let rest = tape.rest;
-    let written = paper::print(reading, &rows, &lines);
     let stop = reading.stop;
+    let written = match rest {
+        Rest::Closed => paper::print(reading, &rows, &lines),
+        _ => false,
+    };
     status::complain(rest, written);
     status::tell(status::digit(rest, stop, written));
 }

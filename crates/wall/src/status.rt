@@ -46,12 +46,15 @@ pub fn digit(rest: Rest, stop: Stop, written: bool) -> u8
     FAILED
 }
 
-// What went wrong with the tape or with the wall, each in a line on standard error.
+// What went wrong with the tape or with the wall, in a line on standard error.
 pub fn complain(rest: Rest, written: bool) {
     match rest {
-        Rest::Closed => (),
-        _ => say(b"wall: the tape could not be read to its end\n"),
+        Rest::Closed => unwritten(written),
+        _ => say(b"wall: the tape could not be read to its end: no wall is printed\n"),
     }
+}
+
+fn unwritten(written: bool) {
     if !written {
         say(b"wall: the wall could not be written\n");
     }
