@@ -75,12 +75,12 @@ RowExit κs = AtExit (endedOf (row.signature .lifetimes) row-kinds.ps row-kinds.
 -- ---- such calls there are: with any state, wherever it lies
 
 -- lifetimes, as many as are asked for
-abbrev someLfts : (n : ℕ) → Lfts n
+abbrev pub someLfts : (n : ℕ) → Lfts n
 someLfts zero = tt
 someLfts (suc n) = ([], someLfts n)
 
 -- a slice that holds these elements
-abbrev slice : List ℕ → RefT (List ℕ)
+abbrev pub slice : List ℕ → RefT (List ℕ)
 slice xs = record { ptr = (0, 0); name = 0; now = xs }
 
 abbrev pub listAt : ListLfts

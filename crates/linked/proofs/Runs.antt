@@ -1,12 +1,10 @@
 -- The runs that the day's theorems speak of exist: in rooms of any bytes, whatever the book is asked, there is such a day of exported
 -- calls, and of whatever is held then any symbol's row can be read.
 -- Assumes nothing.
-use Prim.Native.Nat.{ℕ, zero, suc}
+use Prim.Native.Nat.{ℕ}
 use mathlib.Core.Path.{_≡_, refl, sym, ap, _∙_}
 use mathlib.Core.List.{List, [], _∷_}
-use lib.ListN.{length}
-use contract.Lifetimes.{Lfts}
-use denote.Ref.{RefT}
+use lib.ListN.{length, replicate}
 use Rattle.octets.specs.Run.{Bytes}
 use Rattle.answers.specs.Answers.{numberOf}
 use Rattle.rows.specs.declared.Listing.{Listing}
@@ -14,8 +12,9 @@ use Rattle.counters.specs.declared.Counters.{Counters}
 use Rattle.counters.specs.Counting.{freshCounters}
 use Rattle.book.specs.State.{lent, Outcome, Arrival}
 use Rattle.book.specs.Calls.{listed, delivered, shown}
+use Rattle.book.proofs.Promise.{someLfts, slice}
 use Rattle.book.proofs.Touches.{touches-only}
-use Rattle.words.specs.Words.{counterCount, counterWords, rowWords}
+use Rattle.words.specs.Words.{counterCount, counterWords, rowCount, rowWords}
 use Rattle.words.proofs.Again.{counters-again}
 use Rattle.clerk.specs.States.{Asked, toList, toDeliver, AskedFit}
 use Rattle.clerk.proofs.Lent.{deliver-bytes}
@@ -31,41 +30,33 @@ use Rattle.linked.proofs.Linked.{Calls, no-call, a-listing, a-delivery,
 
 -- ---- calls with any arguments, wherever they lie
 
-someLfts : (n : ℕ) → Lfts n
-someLfts zero = tt
-someLfts (suc n) = ([], someLfts n)
-
--- a reference to these elements
-abbrev ref : List ℕ → RefT (List ℕ)
-ref xs = record { ptr = (0, 0); name = 0; now = xs }
-
 abbrev listAt : ListLfts
 listAt = someLfts (list.signature .lifetimes)
 
 abbrev listWith : Held → Listing → ListArgs listAt
-listWith h l = (ref (h .words), (ref (h .rows), (ref (h .lines), (ref (l .symbol), (l .close, tt)))))
+listWith h l = (slice (h .words), (slice (h .rows), (slice (h .lines), (slice (l .symbol), (l .close, tt)))))
 
 abbrev listThen : Held → Listing → ListExit listAt
-listThen h l = (ref (h .words), (ref (h .rows), (ref (h .lines), (ref (l .symbol), (l .close, tt)))))
+listThen h l = (slice (h .words), (slice (h .rows), (slice (h .lines), (slice (l .symbol), (l .close, tt)))))
 
 abbrev deliverAt : DeliverLfts
 deliverAt = someLfts (deliver.signature .lifetimes)
 
 abbrev deliverWith : Held → Arrival → DeliverArgs deliverAt
-deliverWith h a = (ref (h .words), (ref (h .rows), (ref (h .lines), (a .number, (ref (a .message), tt)))))
+deliverWith h a = (slice (h .words), (slice (h .rows), (slice (h .lines), (a .number, (slice (a .message), tt)))))
 
 abbrev deliverThen : Held → Arrival → DeliverExit deliverAt
-deliverThen h a = (ref (h .words), (ref (h .rows), (ref (h .lines), (a .number, (ref (a .message), tt)))))
+deliverThen h a = (slice (h .words), (slice (h .rows), (slice (h .lines), (a .number, (slice (a .message), tt)))))
 
 abbrev rowAt : RowLfts
 rowAt = someLfts (row.signature .lifetimes)
 
 -- the last are the words that are lent for the row
 abbrev rowWith : Held → List ℕ → List ℕ → RowArgs rowAt
-rowWith h symbol w = (ref (h .words), (ref (h .rows), (ref (h .lines), (ref symbol, (ref w, tt)))))
+rowWith h symbol w = (slice (h .words), (slice (h .rows), (slice (h .lines), (slice symbol, (slice w, tt)))))
 
 abbrev rowThen : Held → List ℕ → List ℕ → RowExit rowAt
-rowThen h symbol w = (ref (h .words), (ref (h .rows), (ref (h .lines), (ref symbol, (ref w, tt)))))
+rowThen h symbol w = (slice (h .words), (slice (h .rows), (slice (h .lines), (slice symbol, (slice w, tt)))))
 
 -- ---- runs
 
@@ -111,8 +102,8 @@ day-there rows lines bl qs f =
       t .0,
       record {
         lifetimes = someLfts (start.signature .lifetimes);
-        before = (ref w, tt);
-        after = (ref w, tt);
+        before = (slice w, tt);
+        after = (slice w, tt);
         started = refl;
         calls = t .1;
       },
@@ -123,4 +114,4 @@ pub reading-there : (h : Held) (symbol : List ℕ) → (κs : RowLfts) × (a : R
     × row-reads.Learnt κs a r x × (rowFrom κs a ≡ h) × (rowAsked κs a ≡ symbol)
 reading-there h symbol =
     let s = shown (stateOf h) symbol in
-    (rowAt, rowWith h symbol [], numberOf (s .answer), rowThen h symbol (rowWords (s .row)), (refl, refl), refl, refl)
+    (rowAt, rowWith h symbol (replicate rowCount 0), numberOf (s .answer), rowThen h symbol (rowWords (s .row)), (refl, refl), refl, refl)

@@ -1,3 +1,4 @@
 pub mod TapeDay
 pub mod WallSaid
 pub mod Printed
+pub mod Exists

@@ -156,7 +156,7 @@ fresh-sheet rooms =
     let e : min 0 (rowLimit (length (rooms .rows))) ≡ 0 = omega arith in
     rw e
 
-fresh-steady : (rooms : State) → Bytes (rooms .lines) → Steady (withCounters freshCounters rooms)
+pub fresh-steady : (rooms : State) → Bytes (rooms .lines) → Steady (withCounters freshCounters rooms)
 fresh-steady rooms bl =
     record {
       safe = fresh-sound (length (rooms .rows)) (length (rooms .lines));
@@ -165,7 +165,7 @@ fresh-steady rooms bl =
     }
 
 -- the listings taken are the sheet, in their order, behind what was on it
-sheet-taken : (s : State) (es : List Entry) → AskedFit (askedIn es) → Steady s
+pub sheet-taken : (s : State) (es : List Entry) → AskedFit (askedIn es) → Steady s
     → (sheetOf (actedAll s es) ≡ sheetOf s ++ listingsTaken s es) × Steady (actedAll s es)
 unfolding actedAll listingsTaken acted
 sheet-taken s [] f h = (sym (append-nil (sheetOf s)), h)
