@@ -1,3 +1,4 @@
+pub mod ByHand
 pub mod Signed
 pub mod Again
 pub mod Told
