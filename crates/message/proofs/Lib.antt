@@ -1,3 +1,4 @@
+pub mod ByHand
 pub mod Said
 pub mod Fitting
 pub mod Written

@@ -63,7 +63,7 @@ module _ (k : Kind) (r : Record) (out : List ℕ) (e : k ≡ kindOf (r .letter))
   written-short t h =
       let o : lawfulOf r ≡ true = sym lawful-found ∙ t in
       let n : leb (lengthBy (r .letter)) (length out) ≡ false = lt-leb (lengthBy (r .letter)) (length out) (omega (arith, long-found)) in
-      (simp (o, n), simp (o, n))
+      (simp (o, n) refl, simp (o, n) refl)
 
   pub written-broken : lawfulIn (layoutOf k) r ≡ false → (FieldBroken ≡ writeAnswer r out) × (out ≡ writeOut r out)
   unfolding writeAnswer writeOut
