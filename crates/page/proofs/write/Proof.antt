@@ -6,6 +6,7 @@ use native.Mathlib.Omega.{arith}
 use borrow.Author.Needs.{needs}
 use lib.ListN.{length}
 use Rattle.book.specs.State.{State, lent}
+use Rattle.page.specs.Page.{lineOf}
 use Rattle.page.specs.Printable.{Printable}
 use Rattle.page.proofs.Fitting.{ending-good}
 use Rattle.page.proofs.Laws.{rows-most, Written, none-yet, within, next-turn, all-turns}
@@ -95,11 +96,13 @@ loop-less c = omega arith
 loop-again : tie.Need-loop-again Inv-loop μ-loop
 loop-again c =
     let t = turn (c .before) in
-    let s = begun (t .before) in (
+    let s = begun (t .before) in
+    let l = c .before .before .before .line in
+    let long : l .result ≡ length (lineOf (lent-to s) (s .args .ending) (t .loop .k)) = l .ensures .1 in (
       omega arith,
       next-turn (lent-to s) (s .args .ending) (s .args .out .now)
           (t .loop .k) (t .loop .at) (t .loop .out) (t .loop .inv .1) _ _ _ _ refl
-          (c .before .before .before .line .ensures) (c .lesser .ensures),
+          (l .ensures .0, long) (c .lesser .ensures),
     )
 
 same-length : tie.Need-same-length Inv-loop μ-loop
