@@ -37,7 +37,7 @@ fn listing(symbol: [u8; 8], close: u32) -> Listing
     }
 }
 
-// The words of a fresh book. No lent byte is written.
+// Writes the words of a fresh book. It is lent no room, and writes no byte of one.
 #[no_mangle]
 pub extern "C" fn sorundappa_start(counters: &mut [u64; words::COUNTERS])
     ensures { λ _. ⌜ now (counters .exit) ≡ counterWords freshCounters ⌝ }

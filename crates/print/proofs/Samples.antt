@@ -33,7 +33,7 @@ rowOf symbol close last high low net volume count reported =
       reported = reported;
     }
 
--- the whole output of day W
+-- the texts of day W, of its row as typed by hand; the whole output, from the tape's bytes, is `w-whole` in trials
 pub w-printed : headerText ++
     (rowText (rowOf "ABCD    " 250000 (Of 252500) (Of 252500) (Of 252500) (Amount (pos 2500)) 170 2 (Volume 600)) ++ closingText 6 7)
     ≡ letters "SYMBOL LAST HIGH LOW NET VOLUME TRADES CONSOL\nABCD 25.2500 25.2500 25.2500 +0.2500 170 2 600\nTAKEN 6 REFUSED 0 WANTED 7\n"
