@@ -1,5 +1,5 @@
--- The runs that `wall-printed` speaks of exist: whatever a room for lines and a tape hold, and however the tape is cut, there are such
--- calls, and after them a call of `write` that prints the wall.
+-- The runs of `begin` and `go_on` that `wall-printed` speaks of exist: whatever the room for lines and the tape hold, and however the tape
+-- is cut, there are such calls.
 -- Assumes nothing.
 use Prim.Native.Nat.{ℕ}
 use mathlib.Core.Path.{refl, sym, subst}
@@ -72,7 +72,8 @@ module _ (rooms : State) (bl : Bytes (rooms .lines)) where
         piece = append-bytes (take (s .held) (s .piece)) p (subst Bytes (sym (w .front)) (left-bytes done b)) (f .0);
       } in
       let next : ReadSo rooms (done ++ p) g
-      = one-piece t goAt (goWith s piece (length piece)) (reading g) (goThen g (length piece)) p refl refl (take-length piece) (refl, typed) in
+      = one-piece t goAt (goWith s piece (length piece)) (reading g) (goThen g (length piece)) p refl refl (take-length piece)
+      (refl, typed) in
       let r = go-on-there (done ++ p) (append-bytes done p b (f .0)) g next ps (f .1) in
       (r .0, subst (λ (x : List ℕ). ReadSo rooms x (r .0)) (append-assoc done p (joined ps)) (r .1))
 

@@ -121,7 +121,8 @@ module _ {rooms : State} {tape : List ℕ} {s : Standing} (read : ReadSo rooms t
     pub day-printed : (day : ℕ → List ℕ) (N n : ℕ) → N ≤ lastNumber → (es : List Entry) (rest : List ℕ) → Tape tape es rest
         → Copies day N (arrivalsIn (askedIn es)) → Largest (numbers (arrivalsIn (askedIn es))) n
         → take r (writeLeft κs a x)
-        ≡ clerkWall (clerkSheet (rowLimit (length (rooms .rows))) (listingsIn (askedIn es))) (lineLimit (length (rooms .lines))) (upto day n)
+        ≡ clerkWall (clerkSheet (rowLimit (length (rooms .rows))) (listingsIn (askedIn es))) (lineLimit (length (rooms .lines)))
+        (upto day n)
         (endingAt (endOf rest) (length (tapeOf es)))
     day-printed day N n fits es rest t copies largest =
         wall-printed ∙ tape-day day N n fits rooms (all-bytes .0) tape (all-bytes .1) es rest t copies largest

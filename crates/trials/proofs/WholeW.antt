@@ -114,7 +114,8 @@ unfolding tapeW
 w-short = lit< tt
 
 -- the program's room, whatever it held before
-module _ (rooms : State) (bl : Bytes (rooms .lines)) (rowsLong : length (rooms .rows) ≡ 1920) (linesLong : length (rooms .lines) ≡ 40960) where
+module _ (rooms : State) (bl : Bytes (rooms .lines)) (rowsLong : length (rooms .rows) ≡ 1920)
+    (linesLong : length (rooms .lines) ≡ 40960) where
   in-room : (n : ℕ) (e : Ending)
       → clerkWall (clerkSheet (rowLimit (length (rooms .rows))) (alone 250000)) (lineLimit (length (rooms .lines))) (upto (dayOf w) n) e
       ≡ wallW n e
@@ -152,4 +153,6 @@ module _ (rooms : State) (bl : Bytes (rooms .lines)) (rowsLong : length (rooms .
       → write-reads.Learnt κs a r x → writeFrom κs a ≡ s .state → writeEnding κs a ≡ endingAt (s .stop) (s .at)
       → 8484 ≤ length (writeSpace κs a) → take r (writeLeft κs a x) ≡ printedW
   w-by-calls read κs a r x h e f room =
-      wall-printed read w-short κs a r x h e f (subst (λ (n : ℕ). wallLongest (rowLimit n) ≤ length (writeSpace κs a)) (sym rowsLong) room) ∙ w-whole
+      wall-printed read w-short κs a r x h e f
+      (subst (λ (n : ℕ). wallLongest (rowLimit n) ≤ length (writeSpace κs a)) (sym rowsLong) room)
+      ∙ w-whole

@@ -12,13 +12,14 @@ pub const ROWS_BYTES: usize = ROWS * rows::CELL;
 
 pub const LINES_BYTES: usize = LINES * lines::CELL;
 
-// What the bytes hold at first is never read.
+// Room for the rows. What the bytes of either room hold at first is never read.
 pub fn for_rows() -> [u8; ROWS_BYTES]
     ensures { λ r. ⌜ rowLimit (length r) ≡ 64 ⌝ }
 {
     [0; ROWS_BYTES]
 }
 
+// Room for the lines.
 pub fn for_lines() -> [u8; LINES_BYTES]
     ensures { λ r. ⌜ lineLimit (length r) ≡ 1024 ⌝ }
 {
