@@ -1,7 +1,7 @@
 -- The tape of the day W, entry by entry, and its play on a fresh book.
 -- Assumes nothing.
 use Prim.Native.Nat.{ℕ}
-use mathlib.Core.List.{List, [], _∷_}
+use mathlib.Core.List.{List, [], _∷_, _++_}
 use Rattle.book.specs.State.{arrives}
 use Rattle.tape.specs.Entries as Entries
 use Rattle.tape.specs.Playing as Playing
@@ -56,14 +56,14 @@ printedW =
 -- W, and behind it a byte that is no kind: the same lines, and where the tape stops
 abbrev pub stoppedW : List ℕ
 stoppedW =
-    letters
-    "SYMBOL LAST HIGH LOW NET VOLUME TRADES CONSOL\nABCD 25.2500 25.2500 25.2500 +0.2500 170 2 600\nTAKEN 6 REFUSED 0 WANTED 7\nTAPE STOPS AT 296\n"
+    letters "SYMBOL LAST HIGH LOW NET VOLUME TRADES CONSOL\nABCD 25.2500 25.2500 25.2500 +0.2500 170 2 600\n"
+    ++ letters "TAKEN 6 REFUSED 0 WANTED 7\nTAPE STOPS AT 296\n"
 
 -- W without its last byte: the correction is not played, and the tape stops at its kind byte
 abbrev pub cutW : List ℕ
 cutW =
-    letters
-    "SYMBOL LAST HIGH LOW NET VOLUME TRADES CONSOL\nABCD 25.1000 25.1000 25.1000 +0.1000 150 2 500\nTAKEN 5 REFUSED 0 WANTED 6\nTAPE STOPS AT 224\n"
+    letters "SYMBOL LAST HIGH LOW NET VOLUME TRADES CONSOL\nABCD 25.1000 25.1000 25.1000 +0.1000 150 2 500\n"
+    ++ letters "TAKEN 5 REFUSED 0 WANTED 6\nTAPE STOPS AT 224\n"
 
 -- the first six entries, and the seventh without its last byte
 unfoldable pub entriesCut : List Entry
