@@ -17,7 +17,7 @@ use Rattle.clerk.specs.Clerk.{clerkSheet}
 use Rattle.clerk.specs.Arrivals.{upto}
 use Rattle.taped.specs.ClerksWall as ClerksWall
 use Rattle.taped.specs.ClerksWall.{clerkWall}
-use Rattle.trials.specs.Days.{abcd, w, alone, dayOf, freshRooms, bookShows, clerkShows}
+use Rattle.trials.specs.Days.{abcd, w, alone, dayOf, freshRooms, caseRun, clerkShows}
 
 -- the listing and the six messages, each under its number; the kinds are S T T T X C
 unfoldable pub entriesW : List Entry
@@ -32,7 +32,7 @@ entriesW =
     ∷ []
 
 unfoldable pub tapeW : List ℕ
-unfolding bookShows Entries.entryBytes entriesW
+unfolding caseRun Entries.entryBytes entriesW
 tapeW = tapeOf entriesW
 
 unfoldable pub playW : Play

@@ -224,16 +224,24 @@ opened sheet = listedEach freshRooms sheet
 unfoldable pub deliveredIn : State → ℕ → List ℕ → State
 deliveredIn s n m = delivered s (arrives n m) .state
 
-unfoldable pub answersTo : (ℕ → List ℕ) → State → List ℕ → List ℕ
-answersTo day s [] = []
-answersTo day s (n ∷ ns) = delivered s (arrives n (day n)) .answer ∷ answersTo day (deliveredIn s n (day n)) ns
+-- what is said back to each number that arrives, and the state that they leave
+pub record Course : Type 0 where
+  pub said : List ℕ
+  pub left : State
+
+unfoldable pub courseOf : (ℕ → List ℕ) → State → List ℕ → Course
+courseOf day s [] = record { said = []; left = s }
+courseOf day s (n ∷ ns) =
+    let o = delivered s (arrives n (day n)) in
+    let p = courseOf day (o .state) ns in
+    record { said = o .answer ∷ p .said; left = p .left }
 
 -- the state after these numbers of a day
-unfoldable pub leftBy : (ℕ → List ℕ) → State → List ℕ → State
-leftBy day s [] = s
-leftBy day s (n ∷ ns) = leftBy day (deliveredIn s n (day n)) ns
+abbrev pub leftBy : (ℕ → List ℕ) → State → List ℕ → State
+leftBy day s ns = courseOf day s ns .left
 
-unfoldable pub saidBack : Case → List ℕ
+-- the arrivals of a case, in a book with its sheet finished
+unfoldable pub caseRun : Case → Course
 unfolding Run.tab Run.part Number.be Number.digits Up.up Text.text Conditions.levelAt Conditions.marksOf Conditions.conditionMarks
     Layouts.layoutS Layouts.layoutT Layouts.layoutC Layouts.layoutJ Values.roomOf Tables.speltBy Tables.obeysBy
     Held.saleFrom Held.newFrom Held.recordFrom Held.readBy Reader.readIn Reader.readOf Search.first
@@ -243,24 +251,13 @@ unfolding Run.tab Run.part Number.be Number.digits Up.up Text.text Conditions.le
     Walking.counts Figures.sold Walking.tally Walking.fold Walking.figuresOf Showing.shownOf
     Kinds.kindOf Keys.matches Table.numberTable Table.contentTable Taking.linesBy Taking.rowsBy Counting.sound Counting.takenBy
     Calls.listTable Calls.listAnswer Calls.listed Calls.messageGiven Calls.delivered Calls.rowAnswer Calls.shown
-    figuresFor listedEach opened deliveredIn answersTo leftBy
-saidBack c = answersTo (dayOf (c .day)) (opened (c .sheet)) (c .arrivals)
-
--- how many numbers are used up
-unfoldable pub numbersUsed : Case → ℕ
-unfolding saidBack
-numbersUsed c = leftBy (dayOf (c .day)) (opened (c .sheet)) (c .arrivals) .counters .wanted - 1
-
-unfoldable pub bookShows : Case → List RowShown
-unfolding numbersUsed
-bookShows c =
-    let s = leftBy (dayOf (c .day)) (opened (c .sheet)) (c .arrivals) in
-    map (λ (l : Listing). shown s (l .symbol) .row) (c .sheet)
+    figuresFor listedEach opened deliveredIn courseOf
+caseRun c = courseOf (dayOf (c .day)) (opened (c .sheet)) (c .arrivals)
 
 -- ---- worked by the clerk
 
 unfoldable pub clerkShows : Case → List RowShown
-unfolding bookShows Clerk.sheetFrom Clerk.phaseAfter Clerk.originOf Clerk.tradesBut Clerk.takenOf Clerk.summaryOf Clerk.reportedOf
+unfolding caseRun Clerk.sheetFrom Clerk.phaseAfter Clerk.originOf Clerk.tradesBut Clerk.takenOf Clerk.summaryOf Clerk.reportedOf
     Clerk.rowOf Clerk.shownBy Arrivals.upto
 clerkShows c =
     let es = takenOf (clerkSheet (rowLimit rowsRoom) (c .sheet)) (lineLimit linesRoom) (upto (dayOf (c .day)) (c .used)) in
@@ -278,7 +275,14 @@ pub record Result : Type 0 where
 -- a case as it is worked, and as the table has it
 unfoldable pub worked : Case → Result
 unfolding clerkShows
-worked c = record { said = saidBack c; used = numbersUsed c; book = bookShows c; clerk = clerkShows c }
+worked c =
+    let p = caseRun c in
+    record {
+      said = p .said;
+      used = p .left .counters .wanted - 1;
+      book = map (λ (l : Listing). shown (p .left) (l .symbol) .row) (c .sheet);
+      clerk = clerkShows c;
+    }
 
 abbrev pub expected : Case → Result
 expected c = record { said = c .said; used = c .used; book = c .shown; clerk = c .shown }
