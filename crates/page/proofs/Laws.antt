@@ -78,11 +78,7 @@ module _ (s : State) (e : Ending) where
   pub end-is : (k n : ℕ) → n ≡ length (rowsIn s) → k ≡ n + 2 → endText e ≡ lineOf s e k
   end-is k n h q =
       let i : suc (length (rowsIn s) + 1) ≡ k = omega arith in
-      go e ∙ sym (behind 1) ∙ ap (lineOf s e) i
-    where
-      go : (e : Ending) → endText e ≡ getD (closed ∷ endLines e) 1 []
-      go Complete = refl
-      go (StopsAt n) = refl
+      sym (behind 1) ∙ ap (lineOf s e) i
 
   lines-most : length (wallLines s e) ≤ length (rowsIn s) + 3
   unfolding wallLines

@@ -26,14 +26,14 @@ shownRow s w = shownOf w (figuresOf (w .listing .symbol) (linesIn s))
 abbrev pub rowLines : State → List (List ℕ)
 rowLines s = map (λ (w : Row). rowText (shownRow s w)) (rowsIn s)
 
--- TAPE STOPS AT, where it does; nothing where the tape ended after a whole entry
-abbrev pub endText : Ending → List ℕ
-endText Complete = []
-endText (StopsAt n) = stopText n
-
+-- TAPE STOPS AT, where it does; none where the tape ended after a whole entry
 abbrev pub endLines : Ending → List (List ℕ)
 endLines Complete = []
 endLines (StopsAt n) = stopText n ∷ []
+
+-- what that line says, and nothing where there is none
+abbrev pub endText : Ending → List ℕ
+endText e = getD (endLines e) 0 []
 
 -- the columns' names, the rows, the closing line, and then where the tape stops
 unfoldable pub wallLines : State → Ending → List (List ℕ)

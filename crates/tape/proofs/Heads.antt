@@ -83,7 +83,7 @@ body-some k z = go (eqb k 76) refl (eqb (messageLength k) 0) refl (length-some (
 
 -- ---- a whole entry at the head
 
-pub record Standing (b : List ℕ) (n : ℕ) : Type 0 where
+pub record EntryStands (b : List ℕ) (n : ℕ) : Type 0 where
   pub kind : ℕ
   pub after : List ℕ
   pub bytes : b ≡ kind ∷ after
@@ -94,12 +94,12 @@ pub record Standing (b : List ℕ) (n : ℕ) : Type 0 where
 pub never : {w : Stop} {n : ℕ} → Stops w ≡ Whole n → ⊥
 never e = let z : _≡_ {A = ℕ} 0 1 = cc in omega arith
 
-pub standing : (b : List ℕ) (n : ℕ) → headOf b ≡ Whole n → Standing b n
+pub entry-stands : (b : List ℕ) (n : ℕ) → headOf b ≡ Whole n → EntryStands b n
 unfolding headOf
-standing [] n e = absurd (never e)
-standing (k ∷ s) n e = go (eqb (bodyLength k) 0) refl (leb (bodyLength k) (length s)) refl
+entry-stands [] n e = absurd (never e)
+entry-stands (k ∷ s) n e = go (eqb (bodyLength k) 0) refl (leb (bodyLength k) (length s)) refl
   where
-    go : (t : Bool) → eqb (bodyLength k) 0 ≡ t → (u : Bool) → leb (bodyLength k) (length s) ≡ u → Standing (k ∷ s) n
+    go : (t : Bool) → eqb (bodyLength k) 0 ≡ t → (u : Bool) → leb (bodyLength k) (length s) ≡ u → EntryStands (k ∷ s) n
     go true t u v = absurd (never (rw t at e))
     go false t false v = absurd (never (rw (t, v) at e))
     go false t true v =
@@ -121,7 +121,7 @@ stands k s z l = rw (ne-eqb (bodyLength k) 0 z, le-leb (bodyLength k) (length s)
 -- an entry that stands there lies within, and has 11 to 72 bytes
 pub standing-within : (b : List ℕ) (n : ℕ) → headOf b ≡ Whole n → (11 ≤ n) × (n ≤ 72) × (n ≤ length b)
 standing-within b n e =
-    let w = standing b n e in
+    let w = entry-stands b n e in
     let l : length b ≡ suc (length (w .after)) = ap length (w .bytes) in
     let f = body-some (w .kind) (w .known) in
     let s = w .size in

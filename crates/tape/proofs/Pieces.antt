@@ -17,7 +17,7 @@ use Rattle.tape.specs.declared.Stop.{Stop}
 use Rattle.tape.specs.declared.Stop.the-variants.{Ended, NoKind, CutShort}
 use Rattle.tape.specs.declared.entries.Head.{Head}
 use Rattle.tape.specs.declared.entries.Head.the-variants.{Whole, Stops}
-use Rattle.tape.proofs.Heads.{standing, stands, standing-within, body-some}
+use Rattle.tape.proofs.Heads.{entry-stands, stands, standing-within, body-some}
 use Rattle.tape.proofs.Plays.{shorter, play-stops, play-whole, further-none, further-further}
 
 -- ---- where a played stops
@@ -108,7 +108,7 @@ kept-short s b h = go (played s b .stop) refl
 -- a whole entry, or a byte that is no kind, stands at the head whatever follows
 head-more : (a b : List ℕ) (n : ℕ) → headOf a ≡ Whole n → headOf (a ++ b) ≡ Whole n
 head-more a b n e =
-    let w = standing a n e in
+    let w = entry-stands a n e in
     let l : bodyLength (w .kind) ≤ length (w .after ++ b) = omega (arith, length-append (w .after) b, w .fits) in
     ap (λ (x : List ℕ). headOf (x ++ b)) (w .bytes) ∙ stands (w .kind) (w .after ++ b) (w .known) l ∙ ap Whole (sym (w .size))
 

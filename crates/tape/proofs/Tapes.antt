@@ -24,7 +24,7 @@ use Rattle.tape.specs.declared.Stop.{Stop}
 use Rattle.tape.specs.declared.Stop.the-variants.{Ended, NoKind, CutShort}
 use Rattle.tape.specs.declared.entries.Head.{Head}
 use Rattle.tape.specs.declared.entries.Head.the-variants.{Whole, Stops}
-use Rattle.tape.proofs.Heads.{never, standing, stands}
+use Rattle.tape.proofs.Heads.{never, entry-stands, stands}
 use Rattle.tape.proofs.Plays.{shorter, play-stops, play-whole}
 
 -- ---- a kind of message is no listing
@@ -163,7 +163,7 @@ module _ (k : ℕ) (body : List ℕ) (known : bodyLength k ≡ 0 → ⊥) (long 
 pub entry-found : (b : List ℕ) (n : ℕ) → Bytes b → headOf b ≡ Whole n
     → (entryBytes (entryOf (take n b)) ≡ take n b) × EntryFits (entryOf (take n b))
 entry-found b n h e =
-    let w = standing b n e in
+    let w = entry-stands b n e in
     let t : take n b ≡ w .kind ∷ take (bodyLength (w .kind)) (w .after)
     = ap (λ (x : List ℕ). take n x) (w .bytes) ∙ ap (λ (x : ℕ). take x (w .kind ∷ w .after)) (w .size) in
     let l : length (take (bodyLength (w .kind)) (w .after)) ≡ bodyLength (w .kind)

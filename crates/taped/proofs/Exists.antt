@@ -23,9 +23,9 @@ use Rattle.taped.proofs.TapeDay.{asked-fits, bytes-before}
 use Rattle.taped.proofs.WallSaid.{sheet-taken, fresh-steady}
 
 -- each piece is bytes
-abbrev pub AllBytes : List (List ℕ) → Type 0
-AllBytes [] = Unit {0}
-AllBytes (p ∷ ps) = Bytes p × AllBytes ps
+abbrev pub PiecesOfBytes : List (List ℕ) → Type 0
+PiecesOfBytes [] = Unit {0}
+PiecesOfBytes (p ∷ ps) = Bytes p × PiecesOfBytes ps
 
 abbrev goAt : GoLfts
 goAt = someLfts (go-on.signature .lifetimes)
@@ -59,7 +59,7 @@ module _ (rooms : State) (bl : Bytes (rooms .lines)) where
       let u = played fresh tape .used in
       bytes-behind (take u tape) (drop u tape) (subst Bytes (sym (take-append-drop u tape)) b)
 
-  go-on-there : (done : List ℕ) → Bytes done → (s : Standing) → ReadSo rooms done s → (ps : List (List ℕ)) → AllBytes ps
+  go-on-there : (done : List ℕ) → Bytes done → (s : Standing) → ReadSo rooms done s → (ps : List (List ℕ)) → PiecesOfBytes ps
       → (end : Standing) × ReadSo rooms (done ++ joined ps) end
   go-on-there done b s t [] f = (s, subst (λ (x : List ℕ). ReadSo rooms x s) (sym (append-nil done)) t)
   go-on-there done b s t (p ∷ ps) f =
@@ -77,5 +77,5 @@ module _ (rooms : State) (bl : Bytes (rooms .lines)) where
       let r = go-on-there (done ++ p) (append-bytes done p b (f .0)) g next ps (f .1) in
       (r .0, subst (λ (x : List ℕ). ReadSo rooms x (r .0)) (append-assoc done p (joined ps)) (r .1))
 
-  pub read-there : (ps : List (List ℕ)) → AllBytes ps → (end : Standing) × ReadSo rooms (joined ps) end
+  pub read-there : (ps : List (List ℕ)) → PiecesOfBytes ps → (end : Standing) × ReadSo rooms (joined ps) end
   read-there ps f = go-on-there [] none-bytes _ (at-first nothingRead [] refl) ps f
