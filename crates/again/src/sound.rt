@@ -2,7 +2,7 @@
 use numbers::put4;
 use numbers::put8;
 use octets::run::paste;
-use octets::run::put_byte;
+use single::put_byte;
 
 const TIME: u32 = 0x01020304;
 

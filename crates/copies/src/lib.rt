@@ -1,10 +1,10 @@
 // Bytes copied from one place to another. A length is asked once: where all bytes stand inside they are moved four at a
 // time, and only past the end of either side they go one by one.
-use octets::run::byte;
-use octets::run::byte_past;
-use octets::run::left;
-use octets::run::put_byte;
-use octets::run::put_past;
+use single::byte;
+use single::byte_past;
+use single::left;
+use single::put_byte;
+use single::put_past;
 ghost use mathlib.Core.Path.{_≡_};
 ghost use mathlib.Core.Bool.{_&&_};
 ghost use Prim.Native.Nat.{_+_, _-_, _*_, _≤_};

@@ -1,6 +1,5 @@
 // The bytes that a line of the script stands for. A decimal number in round brackets is one byte, in angular ones four,
 // in curly ones eight, the highest first; any other sign stands for itself.
-use octets::run;
 use std::num::wrapping_add_u64;
 use std::num::wrapping_add_usize;
 
@@ -15,7 +14,7 @@ pub fn sign(pen: Pen, out: &mut [u8], b: u8) -> Pen {
         b'\n' | b'|' => Pen(0, 0, false),
         b'(' | b'<' | b'{' => Pen(at, 0, true),
         b')' => {
-            run::put_byte(out, at, (x % 256) as u8);
+            single::put_byte(out, at, (x % 256) as u8);
             Pen(wrapping_add_usize(at, 1), 0, false)
         }
         b'>' => {
@@ -37,6 +36,6 @@ fn plain(pen: Pen, out: &mut [u8], b: u8) -> Pen {
         let tens = (pen.1 % 1844674407370955162) * 10;
         return Pen(at, wrapping_add_u64(tens, (b % 16) as u64), true);
     }
-    run::put_byte(out, at, b);
+    single::put_byte(out, at, b);
     Pen(wrapping_add_usize(at, 1), 0, false)
 }

@@ -49,7 +49,7 @@ pub fn least(n: usize, s: &[u8]) -> usize
 pub fn write(space: &mut [u8], code: &[u8]) {
     let sound = message::read(b"\x00\x00\x03\xe8SO");
     let mut r = sound.found;
-    r.event = run::byte(code, 1);
+    r.event = single::byte(code, 1);
     let a = message::write(r, space);
     telling::marked(b':', answers::number(a) as u64);
     telling::marked(b';', rooms::sum(space));

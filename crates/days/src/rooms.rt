@@ -38,11 +38,11 @@ fn tell_cell(room: &[u8], start: usize, form: &[u8]) {
 fn tell_part(room: &[u8], at: usize, sign: u8) -> usize {
     match sign {
         b'.' => {
-            telling::words(&[run::byte(room, at)]);
+            telling::words(&[single::byte(room, at)]);
             1
         }
         b'1' => {
-            telling::field(b"", run::byte(room, at) as u64);
+            telling::field(b"", single::byte(room, at) as u64);
             1
         }
         b'4' => {

@@ -52,7 +52,7 @@ fn turn(day: Day, rows: &mut [u8], lines: &mut [u8], space: &[u8], n: usize, b: 
 }
 
 fn line(day: Day, rows: &mut [u8], lines: &mut [u8], code: &[u8]) -> Day {
-    if run::byte(code, 0) == b'B' {
+    if single::byte(code, 0) == b'B' {
         return opened(rows, lines, code);
     }
     let r = play::least(day.rows, rows);
@@ -67,7 +67,7 @@ fn line(day: Day, rows: &mut [u8], lines: &mut [u8], code: &[u8]) -> Day {
 
 // A fresh book in rooms full of one byte.
 fn opened(rows: &mut [u8], lines: &mut [u8], code: &[u8]) -> Day {
-    let blank = [run::byte(code, 17); 7710];
+    let blank = [single::byte(code, 17); 7710];
     let r = play::least(number8(code, 1) as usize, rows);
     let l = play::least(number8(code, 9) as usize, lines);
     run::fill(&mut rows[..r], &blank, 0);
@@ -80,7 +80,7 @@ fn opened(rows: &mut [u8], lines: &mut [u8], code: &[u8]) -> Day {
 }
 
 fn call(c: Counters, rows: &mut [u8], lines: &mut [u8], code: &[u8]) -> Counters {
-    match run::byte(code, 0) {
+    match single::byte(code, 0) {
         b'K' => counters(code),
         b'L' => play::list(c, rows, lines, code),
         b'D' => play::deliver(c, rows, lines, code),
@@ -115,7 +115,7 @@ fn counters(code: &[u8]) -> Counters {
 
 // What changes nothing.
 fn look(c: Counters, rows: &[u8], lines: &[u8], code: &[u8]) {
-    match run::byte(code, 0) {
+    match single::byte(code, 0) {
         b'R' => play::row(c, rows, lines, code),
         b'N' => play::state(c, rows, lines),
         b'M' => play::read(rows),

@@ -2,7 +2,7 @@
 // which the machine has them.
 use numbers::number8;
 use numbers::weigh;
-use octets::run::left;
+use single::left;
 ghost use mathlib.Core.Path.{_≡_};
 ghost use Prim.Native.Nat.{_+_, _≤_};
 ghost use lib.ListN.{length};

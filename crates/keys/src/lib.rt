@@ -14,7 +14,7 @@ fn key_of(centre: u8, control: [u8; 10]) -> [u8; lines::KEY]
     ensures { λ r. ⌜ r ≡ centre ∷ control ⌝ }
 {
     let mut key = [0u8; lines::KEY];
-    run::put_byte(&mut key, 0, centre);
+    single::put_byte(&mut key, 0, centre);
     run::paste(&mut key, 1, &control);
     key
 }

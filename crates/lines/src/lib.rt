@@ -110,7 +110,7 @@ fn read(lines: &[u8], at: usize) -> Line
         condition: condition,
         place: numbers::number4(lines, at + PLACE),
         time: numbers::number4(lines, at + TIME),
-        live: octets::run::byte(lines, at + LIVE) == 1,
+        live: single::byte(lines, at + LIVE) == 1,
     }
 }
 
@@ -146,7 +146,7 @@ fn store(lines: &mut [u8], at: usize, l: Line)
     octets::run::paste(lines, at + CONDITION, &condition);
     numbers::put4(lines, at + PLACE, l.place);
     numbers::put4(lines, at + TIME, l.time);
-    octets::run::put_byte(lines, at + LIVE, mark_of(l.live));
+    single::put_byte(lines, at + LIVE, mark_of(l.live));
 }
 
 // Stores line i of the room, where the room has such a line.
@@ -163,6 +163,6 @@ pub fn kill(lines: &mut [u8], i: usize)
     ensures { λ _. ⌜ now (lines .exit) ≡ withDead (now (lines .entry)) i ⌝ }
 {
     if i < limit(lines.len()) {
-        octets::run::put_byte(lines, i * CELL + LIVE, 0);
+        single::put_byte(lines, i * CELL + LIVE, 0);
     }
 }

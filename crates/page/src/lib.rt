@@ -1,7 +1,7 @@
 // The printed wall as a whole: its lines one after the other, and the text that they are.
 use bounds::lesser;
 use counters::Counters;
-use octets::run::left;
+use single::left;
 use tape::Stop;
 ghost use mathlib.Core.Path.{_≡_};
 ghost use Prim.Native.Nat.{min};

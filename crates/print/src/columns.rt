@@ -1,9 +1,9 @@
 // The figures of a row, each behind one space, and named counts.
 use figures::Price;
 use octets::run::paste;
-use octets::run::put_byte;
 use rows::Reported;
 use show::Net;
+use single::put_byte;
 ghost use Prim.Native.Nat.{_≤_};
 ghost use mathlib.Core.List.{_∷_, _++_};
 ghost use lib.ListN.{length};

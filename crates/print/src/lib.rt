@@ -5,8 +5,8 @@ mod symbols;
 
 use columns::put_named;
 use octets::run::paste;
-use octets::run::put_byte;
 use show::RowShown;
+use single::put_byte;
 ghost use mathlib.Core.Path.{_≡_};
 ghost use Prim.Native.Nat.{_-_};
 ghost use lib.ListN.{length};

@@ -92,7 +92,7 @@ fn summary_at(rows: &[u8], at: usize) -> Summary
 {
     let high = numbers::number4(rows, at + HIGH);
     let low = numbers::number4(rows, at + LOW);
-    if octets::run::byte(rows, at + SUMMARY) == 1 {
+    if single::byte(rows, at + SUMMARY) == 1 {
         Summary::HighLow(high, low)
     } else {
         Summary::NoSummary
@@ -104,7 +104,7 @@ fn reported_at(rows: &[u8], at: usize) -> Reported
     ensures { λ r. ⌜ r ≡ reportedAt (now (rows .entry)) at ⌝ }
 {
     let volume = numbers::number8(rows, at + VOLUME);
-    if octets::run::byte(rows, at + REPORTED) == 1 {
+    if single::byte(rows, at + REPORTED) == 1 {
         Reported::Volume(volume)
     } else {
         Reported::NotSet
@@ -180,7 +180,7 @@ pub fn report(rows: &mut [u8], i: usize, volume: u64)
 {
     if i < limit(rows.len()) {
         let at = i * CELL;
-        octets::run::put_byte(rows, at + REPORTED, 1);
+        single::put_byte(rows, at + REPORTED, 1);
         numbers::put8(rows, at + VOLUME, volume);
     }
 }
@@ -191,7 +191,7 @@ pub fn summarise(rows: &mut [u8], i: usize, high: u32, low: u32)
 {
     if i < limit(rows.len()) {
         let at = i * CELL;
-        octets::run::put_byte(rows, at + SUMMARY, 1);
+        single::put_byte(rows, at + SUMMARY, 1);
         numbers::put4(rows, at + HIGH, high);
         numbers::put4(rows, at + LOW, low);
     }

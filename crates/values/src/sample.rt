@@ -29,7 +29,7 @@ fn answer(message: &[u8]) -> u8 {
 // The message with another byte at a place.
 pub fn with_byte(s: Sample, at: usize, b: u8) -> Sample {
     let mut bytes = s.bytes;
-    octets::run::put_byte(&mut bytes, at, b);
+    single::put_byte(&mut bytes, at, b);
     Sample {
         kind: s.kind,
         bytes,

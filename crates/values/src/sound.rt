@@ -3,7 +3,7 @@ use crate::sample::Sample;
 use numbers::put4;
 use numbers::put8;
 use octets::run::paste;
-use octets::run::put_byte;
+use single::put_byte;
 ghost use Prim.Native.Nat.{_<_};
 
 // A system event.
