@@ -19,7 +19,7 @@ use Rattle.rows.specs.declared.Listing.{Listing}
 use Rattle.rows.specs.Rows.{rowLimit}
 use Rattle.bounds.proofs.Laws.{up-is}
 use Rattle.counters.specs.Counting.{lastNumber, withWanted}
-use Rattle.counters.proofs.Sound.{sound-gives, sound-exactly}
+use Rattle.sound.proofs.Sound.{sound-gives, sound-exactly}
 use Rattle.table.specs.Table.{numberTable, contentTable}
 use Rattle.table.proofs.Tables.{Wanted, number-content, number-refused, number-taken}
 use Rattle.show.specs.Showing.{nothingShown}

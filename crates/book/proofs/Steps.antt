@@ -27,7 +27,7 @@ use Rattle.figures.specs.declared.Figures.{Figures}
 use Rattle.walk.specs.Walking.{figuresOf}
 use Rattle.counters.specs.declared.Counters.{Counters}
 use Rattle.counters.specs.Counting.{usedUp, oneRowMore, takenBy}
-use Rattle.counters.proofs.Sound.{sound-gives}
+use Rattle.sound.proofs.Sound.{sound-gives}
 use Rattle.keys.specs.Keys.{kindIn}
 use Rattle.table.specs.declared.Verdict.{Verdict}
 use Rattle.table.specs.Table.{isFound, isListed}

@@ -12,7 +12,7 @@ use Rattle.rows.specs.declared.Listing.{Listing}
 use Rattle.rows.specs.declared.Row.{Row}
 use Rattle.rows.specs.Rows.{usedRows, sheetIn}
 use Rattle.counters.specs.declared.Counters.{Counters}
-use Rattle.counters.specs.Counting.{sound, Unsound}
+use Rattle.sound.specs.Sound.{sound, Unsound}
 use Rattle.table.specs.Table.{Basis, basisIn}
 use Rattle.book.specs.declared.Said.{Said}
 

@@ -7,6 +7,7 @@ use kinds::kind_of;
 use rows::Listing;
 use rules::PRICE_TOP;
 use show::RowShown;
+use sound::is_sound;
 use table::judge;
 use table::judge_number;
 use take::take_lines;
@@ -48,7 +49,7 @@ fn judge_listing(c: Counters, rows: &[u8], lines: &[u8], l: Listing) -> Answer
     ensures { λ a. ⌜ a ≡ answerOf (listAnswer (lent c (now (rows .entry)) (now (lines .entry))) l) ⌝ }
 {
     let symbol = l.symbol;
-    if c.is_sound(rows.len(), lines.len()) {
+    if is_sound(c, rows.len(), lines.len()) {
         if texts::is_text(&symbol) & (l.close <= PRICE_TOP) {
             if c.wanted != 1 {
                 return Answer::ListingLate;
@@ -120,7 +121,7 @@ fn judge_arrival(c: Counters, rows: &[u8], lines: &[u8], number: u64) -> Answer
     ensures { λ a. ⌜ a
         ≡ answerOf (given (numberCases (lent c (now (rows .entry)) (now (lines .entry))) number) .number) ⌝ }
 {
-    if c.is_sound(rows.len(), lines.len()) {
+    if is_sound(c, rows.len(), lines.len()) {
         judge_number(c.wanted, number)
     } else {
         Answer::Unsound
@@ -146,7 +147,7 @@ pub fn deliver(c: Counters, rows: &mut [u8], lines: &mut [u8], number: u64, mess
 fn find_row(c: Counters, rows: &[u8], lines: &[u8], symbol: [u8; 8]) -> Located
     ensures { λ p. ⌜ p ≡ located (lent c (now (rows .entry)) (now (lines .entry))) symbol ⌝ }
 {
-    if c.is_sound(rows.len(), lines.len()) {
+    if is_sound(c, rows.len(), lines.len()) {
         match rows::find(rows, c.rows, symbol) {
             Found::Nothing => {
                 Located {

@@ -34,9 +34,10 @@ use Rattle.rows.specs.Changed.{listedRow, summarised, ListingFits}
 use Rattle.rows.proofs.Slabs.{rows-put, rows-report, rows-summary, row-length, used-rows-length}
 use Rattle.counters.specs.declared.Counters.{Counters}
 use Rattle.phases.specs.Phases.{phaseOf, lastPhase}
-use Rattle.counters.specs.Counting.{lastNumber, freshCounters, usedUp, oneRowMore, takenBy, sound}
+use Rattle.counters.specs.Counting.{lastNumber, freshCounters, usedUp, oneRowMore, takenBy}
 use Rattle.counters.specs.Counting.{withWanted, withPhase, withRowCount, withLineCount, withTaken}
-use Rattle.counters.proofs.Sound.{Within, sound-gives}
+use Rattle.sound.specs.Sound.{sound}
+use Rattle.sound.proofs.Sound.{Within, sound-gives}
 use Rattle.keys.specs.Keys.{kindIn, oldKey}
 use Rattle.table.specs.Table.{isFound, isListed, numberTable}
 use Rattle.table.proofs.Tables.{rows-full, Wanted, number-wanted}

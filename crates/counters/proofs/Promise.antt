@@ -1,7 +1,6 @@
 -- Each public function's contract leaves one possible answer. `Learnt` is that contract as the compiler hands it to a caller.
 -- Assumes nothing.
 use mathlib.Core.Path.{_≡_, sym, _∙_}
-use mathlib.Core.Bool.{Bool}
 use Prim.Native.Nat.{ℕ}
 use Rattle.kinds.specs.declared.Kind.{Kind}
 use Rattle.counters.specs.declared.Counters.{Counters}
@@ -12,7 +11,6 @@ use Rattle.counters.proofs.Counters.count_taken.Reads as count-taken-re
 use Rattle.counters.proofs.Counters.add_row.Reads as add-row-reads
 use Rattle.counters.proofs.Counters.add_line.Reads as add-line-reads
 use Rattle.counters.proofs.Counters.take.Reads as take-reads
-use Rattle.counters.proofs.Counters.is_sound.Reads as is-sound-reads
 
 pub fresh-one : (r r′ : Counters) → fresh-reads.Learnt tt tt r tt → fresh-reads.Learnt tt tt r′ tt → r ≡ r′
 fresh-one r r′ h h′ = h ∙ sym h′
@@ -38,8 +36,3 @@ module _ (c c₁ c₂ : Counters) (r r′ : Counters) where
       → take-reads.Learnt tt (c, (k, (e, tt))) r (c₁, (k₁, (e₁, tt)))
       → take-reads.Learnt tt (c, (k, (e, tt))) r′ (c₂, (k₂, (e₂, tt))) → r ≡ r′
   take-one k k₁ k₂ e e₁ e₂ h h′ = h ∙ sym h′
-
-pub is-sound-one : (c c₁ c₂ : Counters) (m m₁ m₂ n n₁ n₂ : ℕ) (b b′ : Bool)
-    → is-sound-reads.Learnt tt (c, (m, (n, tt))) b (c₁, (m₁, (n₁, tt)))
-    → is-sound-reads.Learnt tt (c, (m, (n, tt))) b′ (c₂, (m₂, (n₂, tt))) → b ≡ b′
-is-sound-one c c₁ c₂ m m₁ m₂ n n₁ n₂ b b′ h h′ = h ∙ sym h′

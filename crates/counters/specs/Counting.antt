@@ -1,15 +1,11 @@
--- The wanted number, the phase and the counts, which move together as one value; when a book is sound.
+-- The wanted number, the phase and the counts, which move together as one value.
 -- Assumes nothing.
-use Prim.Native.Nat.{ℕ, _-_, _<_}
-use mathlib.Core.Logic.{_⊎_}
-use mathlib.Core.Bool.{Bool, cond, _&&_}
-use lib.Dec.{leb}
+use Prim.Native.Nat.{ℕ}
+use mathlib.Core.Bool.{cond}
 use Rattle.bounds.specs.Up.{up}
 use Rattle.kinds.specs.declared.Kind.{Kind}
 use Rattle.kinds.specs.Kinds.{isEvent, makesNew}
-use Rattle.lines.specs.Lines.{lineLimit}
-use Rattle.rows.specs.Rows.{rowLimit}
-use Rattle.phases.specs.Phases.{phaseOf, lastPhase}
+use Rattle.phases.specs.Phases.{phaseOf}
 use Rattle.counters.specs.declared.Counters.{Counters}
 
 -- the greatest number that a message may bear
@@ -61,18 +57,3 @@ unfoldable pub takenBy : Kind → ℕ → Counters → Counters
 takenBy kind event c =
     let moved = countedTaken (usedUp c) in
     cond (isEvent kind) (advanced (phaseOf event) moved) (cond (makesNew kind) (oneLineMore moved) moved)
-
--- ---- soundness, for room of that many bytes for rows and for lines
-
--- the faults of a book, one by one: the wanted number outside 1 to 4,294,967,296, too many rows, too many lines, a phase that is
--- none of the seven, more messages taken than numbers used up
-abbrev pub Unsound : Counters → ℕ → ℕ → Type 0
-Unsound c rows lines =
-    ((c .wanted < 1) ⊎ (4294967296 < c .wanted))
-    ⊎ ((rowLimit rows < c .rows) ⊎ ((lineLimit lines < c .lines) ⊎ ((lastPhase < c .phase) ⊎ (c .wanted - 1 < c .taken))))
-
--- the same, as a test
-unfoldable pub sound : Counters → ℕ → ℕ → Bool
-sound c rows lines =
-    leb 1 (c .wanted) && leb (c .wanted) 4294967296 && leb (c .rows) (rowLimit rows) && leb (c .lines) (lineLimit lines)
-    && leb (c .phase) lastPhase && leb (c .taken) (c .wanted - 1)

@@ -4,7 +4,6 @@ use bounds::up;
 use kinds::Kind;
 use kinds::is_event;
 use kinds::makes_new;
-use phases::LAST_PHASE;
 use phases::phase_of;
 ghost use mathlib.Core.Path.{_≡_};
 ghost use Rattle.counters.specs.Counting as Counting;
@@ -88,19 +87,5 @@ impl Counters {
             return moved.add_line();
         }
         moved
-    }
-
-    // Whether the counters are sound for rooms of that many bytes.
-    pub fn is_sound(self, rows: usize, lines: usize) -> bool
-        ensures { λ r. ⌜ r ≡ Counting.sound self rows lines ⌝ }
-    {
-        if self.wanted < 1 {
-            return false;
-        }
-        (self.wanted <= LAST_NUMBER + 1)
-            & (self.rows <= rows::limit(rows))
-            & (self.lines <= lines::limit(lines))
-            & (self.phase <= LAST_PHASE)
-            & (self.taken <= self.wanted - 1)
     }
 }

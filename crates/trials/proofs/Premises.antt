@@ -9,7 +9,7 @@ use native.Mathlib.Omega.{arith}
 use borrow.Author.Tests.{eq-eqb}
 use lib.ListN.{length}
 use Rattle.rows.specs.declared.Listing.{Listing}
-use Rattle.counters.proofs.Sound.{sound-gives}
+use Rattle.sound.proofs.Sound.{sound-gives}
 use Rattle.book.specs.State.{State, Arrival, wantedIn}
 use Rattle.rows.specs.Rows.{rowLimit}
 use Rattle.clerk.specs.Clerk.{clerkSheet}

@@ -43,6 +43,7 @@ use Rattle.keys.specs.Keys as Keys
 use Rattle.table.specs.Table as Table
 use Rattle.take.specs.Taking as Taking
 use Rattle.counters.specs.Counting as Counting
+use Rattle.sound.specs.Sound as Sound
 use Rattle.book.specs.Calls as Calls
 use Rattle.clerk.specs.Clerk as Clerk
 use Rattle.clerk.specs.Arrivals as Arrivals
@@ -249,7 +250,7 @@ unfolding Run.tab Run.part Number.be Number.digits Up.up Text.text Conditions.le
     Rows.listingFrom Rows.summaryAt Rows.reportedAt Rows.rowFrom Rows.newRow Rows.reportBytes Rows.summaryBytes Rows.usedRows
     Rows.rowIn Rows.inRow
     Walking.counts Figures.sold Walking.tally Walking.fold Walking.figuresOf Showing.shownOf
-    Kinds.kindOf Keys.matches Table.numberTable Table.contentTable Taking.linesBy Taking.rowsBy Counting.sound Counting.takenBy
+    Kinds.kindOf Keys.matches Table.numberTable Table.contentTable Taking.linesBy Taking.rowsBy Sound.sound Counting.takenBy
     Calls.listTable Calls.listAnswer Calls.listed Calls.messageGiven Calls.delivered Calls.rowAnswer Calls.shown
     figuresFor listedEach opened deliveredIn courseOf
 caseRun c = courseOf (dayOf (c .day)) (opened (c .sheet)) (c .arrivals)

@@ -3,7 +3,7 @@
 use mathlib.Core.Path.{sym, _∙_}
 use native.Mathlib.Omega.{arith}
 use lib.ListN.{length}
-use Rattle.counters.specs.Counting.{sound}
+use Rattle.sound.specs.Sound.{sound}
 use Rattle.table.proofs.Tables.{number-wanted}
 use Rattle.book.proofs.Steps.{refused-here, taken-here}
 use borrow.Author.Needs.{needs}

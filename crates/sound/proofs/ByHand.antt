@@ -5,8 +5,8 @@ use Prim.Native.Nat.{ℕ}
 use mathlib.Core.Path.{_≡_, refl}
 use mathlib.Core.List.{List, [], _∷_, map}
 use mathlib.Core.Bool.{Bool, true, false}
 use Rattle.counters.specs.declared.Counters.{Counters}
-use Rattle.counters.specs.Counting.{sound}
+use Rattle.sound.specs.Sound.{sound}
 
 abbrev of : ℕ → ℕ → ℕ → ℕ → ℕ → Counters
 of wanted phase rows lines taken = record { wanted = wanted; phase = phase; rows = rows; lines = lines; taken = taken }

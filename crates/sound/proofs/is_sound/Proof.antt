@@ -1,10 +1,10 @@
--- `counters::Counters::is_sound` meets its contract.
+-- `sound::is_sound` meets its contract.
 -- Assumes nothing.
 use borrow.Author.Tests.{lt-leb, le-leb}
-use Rattle.counters.specs.Counting.{sound}
+use Rattle.sound.specs.Sound.{sound}
 use borrow.Author.Needs.{needs}
-use Rattle.counters.proofs.Counters.is_sound.Statement.{statement}
-use Rattle.counters.proofs.Counters.is_sound.Tie as tie
+use Rattle.sound.proofs.is_sound.Statement.{statement}
+use Rattle.sound.proofs.is_sound.Tie as tie
 
 returns : tie.Need-returns
 unfolding sound

@@ -9,8 +9,8 @@ use borrow.Author.Tests.{leb-true, leb-false}
 use Rattle.lines.specs.Lines.{lineLimit}
 use Rattle.rows.specs.Rows.{rowLimit}
 use Rattle.phases.specs.Phases.{lastPhase}
 use Rattle.counters.specs.declared.Counters.{Counters}
-use Rattle.counters.specs.Counting.{Unsound, sound}
+use Rattle.sound.specs.Sound.{Unsound, sound}
 
 -- the six bounds of a sound book, for room of that many bytes for rows and for lines
 pub record Within (c : Counters) (rows lines : ℕ) : Type 0 where
