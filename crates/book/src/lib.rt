@@ -48,27 +48,25 @@ pub fn fresh() -> Counters
 fn judge_listing(c: Counters, rows: &[u8], lines: &[u8], l: Listing) -> Answer
     ensures { λ a. ⌜ a ≡ answerOf (listAnswer (lent c (now (rows .entry)) (now (lines .entry))) l) ⌝ }
 {
+    if !is_sound(c, rows.len(), lines.len()) {
+        return Answer::Unsound;
+    }
     let symbol = l.symbol;
-    if is_sound(c, rows.len(), lines.len()) {
-        if texts::is_text(&symbol) & (l.close <= PRICE_TOP) {
-            if c.wanted != 1 {
-                return Answer::ListingLate;
+    if !(texts::is_text(&symbol) & (l.close <= PRICE_TOP)) {
+        return Answer::ListingBroken;
+    }
+    if c.wanted != 1 {
+        return Answer::ListingLate;
+    }
+    match rows::find(rows, c.rows, symbol) {
+        Found::Nothing => {
+            if rows::limit(rows.len()) <= c.rows {
+                Answer::RowsFull
+            } else {
+                Answer::Done
             }
-            match rows::find(rows, c.rows, symbol) {
-                Found::Nothing => {
-                    if rows::limit(rows.len()) <= c.rows {
-                        Answer::RowsFull
-                    } else {
-                        Answer::Done
-                    }
-                }
-                Found::At(i) => Answer::ListedAlready,
-            }
-        } else {
-            Answer::ListingBroken
         }
-    } else {
-        Answer::Unsound
+        Found::At(i) => Answer::ListedAlready,
     }
 }
 
