@@ -1,6 +1,6 @@
 -- The sheet by hand: at each level every code that has both marks, every code that has high and low only, and every code that has neither,
--- in rising order, and what four codes together bear. The figures are document 01's and come from no definition, so a code that stands
--- wrong in the tables and on the sheet alike is found here.
+-- in rising order, and what four codes together bear. The figures are document 01's, or our papers' where it leaves them open, and come
+-- from no definition, so a code that stands wrong in the tables and on the sheet alike is found here.
 -- Assumes nothing.
 use Prim.Native.Nat.{ℕ}
 use mathlib.Core.Path.{_≡_, refl}

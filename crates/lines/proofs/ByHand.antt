@@ -1,6 +1,6 @@
 -- Lines by hand: what a cell is read as, whatever its mark, which of the lines with a key is found, and how many lines a room has. The
--- figures are document 01's and come from no definition, so a mark that is read wrong in the code and in its definition alike is found
--- here.
+-- figures are document 01's, or our papers' where it leaves them open, and come from no definition, so a mark that is read wrong in the
+-- code and in its definition alike is found here.
 -- Assumes nothing.
 use Prim.Native.Nat.{ℕ}
 use mathlib.Core.Path.{_≡_, refl}

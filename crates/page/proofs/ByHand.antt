@@ -11,7 +11,7 @@ use Rattle.page.specs.declared.Ending.the-variants.{Complete, StopsAt}
 use Rattle.page.specs.Page.{endingAt, wallLines, wallOf}
 use Rattle.page.proofs.Laws.{joined-append}
 
--- after a whole entry the tape is complete; a byte that is no kind and a body cut short stop it at their offset
+-- with nothing left the tape is complete; a byte that is no kind and a body cut short stop it at their offset
 pub endings : (endingAt Ended 7 ≡ Complete) × (endingAt NoKind 7 ≡ StopsAt 7) × (endingAt CutShort 7 ≡ StopsAt 7)
 endings = (refl, refl, refl)
 

@@ -26,7 +26,7 @@ shownRow s w = shownOf w (figuresOf (w .listing .symbol) (linesIn s))
 abbrev pub rowLines : State → List (List ℕ)
 rowLines s = map (λ (w : Row). rowText (shownRow s w)) (rowsIn s)
 
--- TAPE STOPS AT, where it does; none where the tape ended after a whole entry
+-- TAPE STOPS AT, where it does; none where nothing of the tape was left
 abbrev pub endLines : Ending → List (List ℕ)
 endLines Complete = []
 endLines (StopsAt n) = stopText n ∷ []

@@ -13,7 +13,7 @@ ghost use Rattle.rows.specs.Rows.{rowIn, usedRows};
 ghost use Rattle.page.specs.Printable.{Printable};
 ghost use Rattle.page.specs.Page.{shownRow, endText, endingAt, lineOf, wallOf};
 
-// How a tape came to its end: after a whole entry, or at the offset of the kind byte of what cannot be played.
+// How a tape came to its end: with nothing left of it, or at the offset of the kind byte of what cannot be played.
 pub enum Ending {
     Complete,
     StopsAt(u64),

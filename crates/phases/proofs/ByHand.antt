@@ -1,5 +1,6 @@
 -- The events by hand: the phase that each begins, those of some bytes beside them, and in which phases a trade is due. The figures are
--- document 01's and come from no definition, so an order that is wrong in the code and in its definition alike is found here.
+-- document 01's, or our papers' where it leaves them open, and come from no definition, so an order that is wrong in the code and in its
+-- definition alike is found here.
 -- Assumes nothing.
 use Prim.Native.Nat.{ℕ}
 use mathlib.Core.Path.{_≡_, refl}

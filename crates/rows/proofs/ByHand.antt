@@ -1,5 +1,6 @@
 -- Rows by hand: what cells are read as, whatever their marks, which of two equal rows is found, and how many rows a room has. The figures
--- are document 01's and come from no definition, so a mark that is read wrong in the code and in its definition alike is found here.
+-- are document 01's, or our papers' where it leaves them open, and come from no definition, so a mark that is read wrong in the code and in
+-- its definition alike is found here.
 -- Assumes nothing.
 use Prim.Native.Nat.{ℕ}
 use mathlib.Core.Path.{_≡_, refl}

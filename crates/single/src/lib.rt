@@ -1,5 +1,5 @@
-// Single bytes of lent bytes: read and stored. Every function here is total: a byte past the end is read as 0, and a
-// byte stored past the end goes nowhere, so no caller has a length to show.
+// Single bytes of lent bytes: read and stored, and how many there are. Every function here is total: a byte past the
+// end is read as 0, and a byte stored past the end goes nowhere, so no caller has a length to show.
 ghost use mathlib.Core.Path.{_≡_};
 ghost use Prim.Native.Nat.{_+_, _-_};
 ghost use lib.ListN.{getD, set};

@@ -1,4 +1,4 @@
-// Whether a book is sound: a call that is lent one asks this first.
+// Whether a book is sound: each of the four calls of the book that is lent one asks this first.
 use counters::Counters;
 use counters::LAST_NUMBER;
 use phases::LAST_PHASE;

@@ -1,5 +1,6 @@
--- The answer table by hand: the numbers about a wanted one, and for a trade, its cancel and its correction the answer to each fault and to
--- two faults together. The figures are document 01's and come from no definition, so an order that is wrong in the table is found here.
+-- The answer table by hand: the numbers about a wanted one, and for a trade, its cancel and its correction that were read the answers to
+-- faults of their content, one at a time and two together. The figures are document 01's and come from no definition, so an order that is
+-- wrong in the table is found here.
 -- Assumes nothing.
 use Prim.Native.Nat.{ℕ}
 use mathlib.Core.Path.{_≡_, refl}

@@ -1,5 +1,5 @@
--- The runs of `begin` and `go_on` that `wall-printed` speaks of exist: whatever the room for lines and the tape hold, and however the tape
--- is cut, there are such calls.
+-- The runs of `begin` and `go_on` that `wall-printed` speaks of exist: whatever the room for lines and the tape hold, there are such calls.
+-- They are made here from any pieces that together are the tape.
 -- Assumes nothing.
 use Prim.Native.Nat.{ℕ}
 use mathlib.Core.Path.{refl, sym, subst}

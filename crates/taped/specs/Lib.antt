@@ -1,2 +1,3 @@
 pub mod ClerksWall
 pub mod Said
+pub mod DayW

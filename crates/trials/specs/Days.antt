@@ -1,6 +1,7 @@
--- Days to try by hand, as one table: what is listed, what arrives, what is said back, how many messages are used, and what each row
--- shows then. The table is worked twice: from the book's promises, in lent rooms whose bytes are all 35 at first, and from the clerk's
--- definitions. The numbers are document 01's; the days without one tell apart what book and clerk share, where both could be wrong.
+-- Days to try by hand, as one table: what is listed, what arrives, what is said back, how many messages are used, and what each row shows
+-- then. The table is worked from the book's promises, in lent rooms whose bytes are all 35 at first, and its rows once more from the
+-- clerk's definitions, of as many messages as are used. The numbers are document 01's; the days without one tell apart what book and clerk
+-- share, where both could be wrong.
 -- Assumes nothing.
 use Prim.Native.Nat.{ℕ, zero, suc, _*_, _-_}
 use mathlib.Core.Path.{_≡_}
@@ -748,8 +749,8 @@ bounded =
       used = 5;
       shown = figures 1000 Absent Absent Absent NoNet 0 0 false (Volume 2) ∷ [];
     }
-    -- a time that goes backwards: the trade of the last millisecond is not the last; a correction before both keeps the older place; a T,
-    -- an S, an X and a J of the next day's first millisecond
+    -- a time that goes backwards, and 11's two times: the trade of the last millisecond is not the last; a correction before both keeps
+    -- the older place; a T, an S, an X and a J of the next day's first millisecond
     ∷ record {
       sheet = alone 1000;
       day =

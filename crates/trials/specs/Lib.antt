@@ -1,4 +1,3 @@
 pub mod Days
 pub mod Sheets
-pub mod DayW
 pub mod Premises

@@ -2,18 +2,20 @@
 -- of its tape with a byte more and with a byte less.
 -- Assumes nothing.
 use Prim.Native.Nat.{ℕ, zero, suc, _^_, _≤_, _<_}
-use mathlib.Core.Path.{_≡_, refl, ap₂, sym, subst, _∙_}
-use mathlib.Core.Bool.{Bool, true, _&&_, and-eq-true-iff}
+use mathlib.Core.Path.{_≡_, refl, ap, ap₂, sym, subst, _∙_}
+use mathlib.Core.Bool.{Bool, true, _&&_, cond, and-eq-true-iff}
 use mathlib.Core.List.{List, [], _∷_, _++_}
 use borrow.Author.Tests.{ltb-true}
-use lib.Dec.{ltb, lit<, lit≤}
+use lib.Dec.{eqb, leb, ltb, lit<, lit≤}
 use lib.ListN.{length, take, getD}
 use Rattle.octets.specs.Run.{Bytes}
 use Rattle.lines.specs.Lines.{lineLimit}
 use Rattle.rows.specs.Rows.{rowLimit}
 use Rattle.book.specs.State.{State}
 use Rattle.tape.specs.Entries as Entries
-use Rattle.tape.specs.Entries.{EntriesFit, tapeOf}
+use Rattle.octets.proofs.Bytes.{append-bytes}
+use Rattle.tape.specs.declared.entries.Head.the-variants.{Whole, Stops}
+use Rattle.tape.specs.Entries.{EntriesFit, bodyLength, tapeOf}
 use Rattle.tape.specs.declared.Stop.the-variants.{NoKind, CutShort}
 use Rattle.tape.proofs.Tapes.{whole-tape, cut-tape}
 use Rattle.page.specs.declared.Ending.{Ending}
@@ -28,11 +30,11 @@ use Rattle.clerk.specs.Clerk.{clerkSheet}
 use Rattle.clerk.specs.Arrivals.{Largest, numbers, Copies, upto}
 use Rattle.clerk.specs.States.{arrivalsIn}
 use Rattle.clerk.proofs.InOrder.{got, largest-got}
 use Rattle.taped.specs.ClerksWall.{clerkWall, askedIn}
 use Rattle.taped.proofs.TapeDay.{tape-day}
 use Rattle.taped.proofs.Printed.{wall-printed}
 use Rattle.trials.specs.Days.{w, alone, dayOf}
-use Rattle.trials.specs.DayW.{entriesW, tapeW, entriesCut, restCut, wallW, printedW, stoppedW, cutW}
+use Rattle.taped.specs.DayW.{entriesW, tapeW, entriesCut, restCut, wallW, printedW, stoppedW, cutW}
 
 -- a list whose numbers are tested one by one is bytes
 small : List ℕ → Bool
@@ -130,13 +132,15 @@ module _ (rooms : State) (bl : Bytes (rooms .lines)) (rowsLong : length (rooms .
       ∙ in-room 6 Complete
       ∙ w-clerks
 
-  -- and of its tape with a byte behind it that is no kind
-  pub w-stops : wallText rooms (tapeW ++ (0 ∷ [])) ≡ stoppedW
-  unfolding tapeW wallW Entries.headOf Entries.bodyLength small
-  w-stops =
-      tape-day (dayOf w) 6 6 (lit≤ tt) rooms bl (tapeW ++ (0 ∷ [])) (small-bytes (tapeW ++ (0 ∷ [])) refl) entriesW (0 ∷ [])
-      (cut-tape entriesW (0 ∷ []) NoKind w-fits refl) w-copies w-largest
-      ∙ in-room 6 (StopsAt 296)
+  -- and of its tape with a byte behind it that is no kind, whatever comes after that
+  pub w-stops : (k : ℕ) (more : List ℕ) → Bytes (k ∷ more) → bodyLength k ≡ 0 → wallText rooms (tapeW ++ (k ∷ more)) ≡ stoppedW
+  unfolding tapeW wallW Entries.headOf
+  w-stops k more bytes none =
+      let head = ap (λ (n : ℕ). cond (eqb n 0) (Stops NoKind) (cond (leb n (length more)) (Whole (suc n)) (Stops CutShort))) none in
+      tape-day (dayOf w) 6 6 (lit≤ tt) rooms bl (tapeW ++ (k ∷ more)) (append-bytes tapeW (k ∷ more) w-bytes bytes) entriesW (k ∷ more)
+      (cut-tape entriesW (k ∷ more) NoKind w-fits head) w-copies w-largest
+      ∙ in-room 6 (endingAt (cond (eqb (bodyLength k) 0) NoKind CutShort) 296)
+      ∙ ap (λ (n : ℕ). wallW 6 (endingAt (cond (eqb n 0) NoKind CutShort) 296)) none
       ∙ stops-clerks
 
   -- and of its tape without the last byte

@@ -1,4 +1,4 @@
--- The tape of the day W, entry by entry, and its play on a fresh book.
+-- The tape of the day W, entry by entry, and its play on a fresh book in rooms for two rows and twelve lines.
 -- Assumes nothing.
 use Prim.Native.Nat.{ℕ}
 use mathlib.Core.List.{List, [], _∷_, _++_}

@@ -18,8 +18,8 @@ use Rattle.clerk.specs.Clerk.{clerkSheet, takenOf}
 use Rattle.clerk.specs.Arrivals.{Largest, numbers, Copies, upto}
 use Rattle.clerk.specs.Claims.{namedIn}
 use Rattle.clerk.proofs.Demand3.{Day, namedBy, named-calls}
 use Rattle.trials.specs.Days.{abcd, control, w, alone, dayOf, priced, figuresFor, rowsRoom, linesRoom, clerkShows}
-use Rattle.trials.specs.DayW.{tapeW, playW}
+use Rattle.taped.specs.DayW.{tapeW, playW}
 
 pub w-played : (playW .state .counters .taken ≡ 6) × (playW .state .counters .wanted ≡ 7) × (playW .used ≡ length tapeW)
     × (length tapeW ≡ 296) × (playW .stop ≡ Ended)
