@@ -1,5 +1,4 @@
 pub mod Calls
-pub mod Sizes
 pub mod Given
 pub mod Refused
 pub mod Promise

@@ -16,7 +16,7 @@ ghost use Rattle.words.specs.Words.{counterWords, countersOf, rowWords};
 ghost use Rattle.rows.specs.Changed.{ListingFits};
 ghost use Rattle.records.specs.Fits.{RecordFits};
 ghost use Rattle.records.specs.Packed.{recordOf, recordBytes};
-ghost use Rattle.cabinet.specs.Sizes.{sizeOf};
+ghost use Rattle.sizes.specs.Sizes.{sizeOf};
 ghost use Rattle.cabinet.specs.Crossing.{listingWith, crossed, crossing, ListTyped, DeliverTyped};
 
 // The number of an answer in the table: what every call but the first and the last tells.
@@ -143,23 +143,10 @@ pub extern "C" fn sorundappa_write(bytes: &[u8; records::RECORD], out: &mut [u8]
     told(a)
 }
 
-// Where the list of sizes has those of the types' messages, S T X C J.
-const FIRST_TYPE: u64 = 8;
-
 // A size that a caller needs, by its place in the list of sizes; 0 past the end of the list.
 #[no_mangle]
 pub extern "C" fn sorundappa_size(which: u64) -> u64
     ensures { λ n. ⌜ n ≡ sizeOf which ⌝ }
 {
-    match which {
-        0 => rows::CELL as u64,
-        1 => rows::CAP as u64,
-        2 => lines::CELL as u64,
-        3 => lines::CAP as u64,
-        4 => packing::LONGEST as u64,
-        5 => records::RECORD as u64,
-        6 => words::COUNTERS as u64,
-        7 => words::ROW as u64,
-        _ => packing::length_of(kinds::kind_at(which - FIRST_TYPE)) as u64,
-    }
+    sizes::size(which)
 }

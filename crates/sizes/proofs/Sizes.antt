@@ -20,7 +20,7 @@ use Rattle.rows.specs.Rows.{rowLimit}
 use Rattle.lines.specs.Lines.{lineLimit}
 use Rattle.records.specs.Packed.{packed, recordBytes}
 use Rattle.records.proofs.Stores.{fits-long, record-length}
-use Rattle.cabinet.specs.Sizes.{sizes, sizeOf}
+use Rattle.sizes.specs.Sizes.{sizes, sizeOf}
 
 -- past the end of the list
 pub size-none : (which : ℕ) → length sizes ≤ which → sizeOf which ≡ 0
