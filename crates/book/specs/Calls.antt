@@ -92,7 +92,9 @@ abbrev pub after : State → Record → Case → State
 after s r g = cond (eqb (g .number) 0) (taking s r) (cond (g .uses) (spent s) s)
 
 unfoldable pub delivered : State → Arrival → Outcome
-delivered s a = record { answer = messageGiven s a .number; state = after s (readOf (a .message) .found) (messageGiven s a) }
+delivered s a =
+    let g = messageGiven s a in
+    record { answer = g .number; state = after s (readOf (a .message) .found) g }
 
 -- ---- reading a row
 
