@@ -1,17 +1,16 @@
--- Laws of eight bytes as one number, the first byte the lowest: nothing of the bytes is lost in it.
+-- Laws of eight bytes as one number, the first byte the lowest; those of any width are octets'.
 -- Assumes nothing.
-use mathlib.Core.Path.{_≡_, refl, ap, sym, _∙_}
-use mathlib.Core.Bool.{Bool, true, false, true≢false}
+use mathlib.Core.Path.{_≡_, ap, _∙_}
 use mathlib.Core.List.{List}
-use Prim.Native.Nat.{ℕ, zero, suc, _+_, _*_, _-_, _≤_, _<_}
+use Prim.Native.Nat.{ℕ, _+_, _*_, _-_, _≤_}
 use native.Mathlib.Nat.{add-zero}
 use native.Mathlib.Omega.{arith}
-use borrow.Author.Tests.{ne-eqb, eq-eqb}
 use lib.Dec.{eqb}
 use lib.ListN.{length, take, drop, getD}
-use Rattle.octets.specs.Run.{tab, part, past, same, Bytes}
+use Rattle.octets.specs.Run.{tab, part, same, Bytes}
 use Rattle.octets.proofs.Laws.{part-length}
-use Rattle.octets.proofs.Trips.{same-is, whole, lent}
+use Rattle.octets.proofs.Low.{low-same}
+use Rattle.octets.proofs.Trips.{whole, lent}
 use Rattle.eights.specs.Low.{low}
 
 -- eight bytes, as two numbers of four
@@ -28,36 +27,10 @@ low-lent m at h =
     let e : take (at + 8 - at) (drop at m) ≡ part m at 8 = lent m at (at + 8) 8 (omega arith) h in
     ap (λ (xs : List ℕ). low (part xs 0 8)) e ∙ ap low (whole (part m at 8) 8 (part-length m at 8))
 
--- nothing of bytes is lost in their number
-low-told : (f g : ℕ → ℕ) → ((i : ℕ) → f i < 256) → ((i : ℕ) → g i < 256) → (i n : ℕ) → low (tab f i n) ≡ low (tab g i n)
-    → tab f i n ≡ tab g i n
-unfolding low tab
-low-told f g b c i zero e = refl
-low-told f g b c i (suc n) e =
-    let x : f i ≡ g i = omega (arith, e, b i, c i) in
-    let r : low (tab f (suc i) n) ≡ low (tab g (suc i) n) = omega (arith, e, b i, c i) in
-    rw (x, low-told f g b c (suc i) n r)
-
--- eight bytes are a symbol's exactly if their number is
-pub number-same : (m symbol : List ℕ) (at : ℕ) → Bytes m → Bytes symbol → length symbol ≡ 8
-    → eqb (low (part m at 8)) (low (part symbol 0 8)) ≡ same (part m at 8) symbol
-unfolding part
-number-same m symbol at b c l = go (same (part m at 8) symbol) refl
-  where
-    w : part symbol 0 8 ≡ symbol
-    w = whole symbol 8 l
-
-    there : low (part m at 8) ≡ low (part symbol 0 8) → part m at 8 ≡ symbol
-    there e = low-told (past m at) (past symbol 0) (λ i. b (at + i)) (λ i. c (0 + i)) 0 8 e ∙ w
-
-    go : (x : Bool) → same (part m at 8) symbol ≡ x → eqb (low (part m at 8)) (low (part symbol 0 8)) ≡ same (part m at 8) symbol
-    go true e = eq-eqb _ _ (ap low (same-is (part m at 8) symbol .0 e ∙ sym w)) ∙ sym e
-    go false e = ne-eqb _ _ (λ q. true≢false (sym (same-is (part m at 8) symbol .1 (there q)) ∙ e)) ∙ sym e
-
 -- a symbol that a loop knows by its number
 abbrev pub Named : ℕ → List ℕ → Type 0
 Named name symbol = (length symbol ≡ 8) × Bytes symbol × (name ≡ low (part symbol 0 8))
 
 pub named-same : (m symbol : List ℕ) (at name : ℕ) → Bytes m → Named name symbol
     → eqb (low (part m at 8)) name ≡ same (part m at 8) symbol
-named-same m symbol at name b h = rw (h .2) (number-same m symbol at b (h .1) (h .0))
+named-same m symbol at name b h = rw (h .2) (low-same m symbol at 8 b (h .1) (h .0))

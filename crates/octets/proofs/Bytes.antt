@@ -33,9 +33,12 @@ pub part-bytes : (m : List ℕ) (at n : ℕ) → Bytes m → Bytes (part m at n)
 unfolding part
 part-bytes m at n b = tab-bytes (past m at) (λ i. b (at + i)) 0 n
 
+pub replicate-bytes : (n v : ℕ) → v < 256 → Bytes (replicate n v)
+replicate-bytes zero v h = none-bytes
+replicate-bytes (suc n) v h = cons-bytes v (replicate n v) h (replicate-bytes n v h)
+
 pub zeros-bytes : (n : ℕ) → Bytes (replicate n 0)
-zeros-bytes zero = none-bytes
-zeros-bytes (suc n) = cons-bytes 0 (replicate n 0) (lit< tt) (zeros-bytes n)
+zeros-bytes n = replicate-bytes n 0 (lit< tt)
 
 pub set-bytes : (m : List ℕ) (at x : ℕ) → x < 256 → Bytes m → Bytes (set m at x)
 set-bytes [] at x h b = none-bytes

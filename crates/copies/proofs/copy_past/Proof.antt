@@ -7,7 +7,7 @@ use lib.ListN.{length, length-set}
 use lib.Seq.{sets}
 use borrow.Author.Needs.{needs}
 use Rattle.octets.specs.Run.{part}
-use Rattle.copies.proofs.Turns.{copy-none, copy-next}
+use Rattle.octets.proofs.Turns.{copy-none, copy-next}
 use Rattle.copies.proofs.copy_past.Statement.{statement}
 use Rattle.copies.proofs.copy_past.Tie as tie
 

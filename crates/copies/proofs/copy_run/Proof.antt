@@ -1,22 +1,47 @@
 -- `copies::copy_run` meets its contract.
 -- Assumes nothing.
-use mathlib.Core.Path.{sym, _∙_}
+use mathlib.Core.Path.{_≡_, ap, sym, _∙_}
+use Prim.Native.Nat.{_+_, _-_, _≤_}
+use native.Mathlib.Omega.{arith}
+use lib.ListN.{length}
+use lib.Seq.{sets}
 use borrow.Author.Needs.{needs}
-use Rattle.copies.proofs.Turns.{room-both}
+use Rattle.octets.proofs.Trips.{lent}
+use Rattle.copies.proofs.Room.{room-both}
 use Rattle.copies.proofs.copy_run.Statement.{statement}
 use Rattle.copies.proofs.copy_run.Tie as tie
 
 inside-requires : tie.Need-inside-requires
 inside-requires c κs = search needs
 
-move-run-requires : tie.Need-move-run-requires
-move-run-requires c κs = room-both _ _ _ (sym (c .before .before .inside .ensures) ∙ c .before .if1 .taken)
+add-paste : tie.Need-add-paste
+add-paste c =
+    let a = c .before .before .before .before .before .args in
+    omega (arith, room-both (a .n) _ (length (a .s .now)) (a .from) (sym (c .before .before .inside .ensures) ∙ c .before .if1 .taken))
+
+sub-paste : tie.Need-sub-paste
+sub-paste c = search needs
+
+part-paste-start : tie.Need-part-paste-start
+part-paste-start c = search needs
+
+part-paste-end : tie.Need-part-paste-end
+part-paste-end c =
+    let a = c .before .before .before .before .before .args in
+    room-both (a .n) _ (length (a .s .now)) (a .from) (sym (c .before .before .inside .ensures) ∙ c .before .if1 .taken)
+
+paste-requires : tie.Need-paste-requires
+paste-requires c κs = search needs
 
 same-length : tie.Need-same-length
 same-length c = search needs
 
 returns : tie.Need-returns
-returns c = c .before .before .move-run .ensures
+returns c =
+    let tested = c .before .before .before .before .before in
+    let a = tested .before .before .before .before .args in
+    let h = room-both (a .n) _ (length (a .s .now)) (a .from) (sym (tested .before .inside .ensures) ∙ tested .if1 .taken) in
+    c .before .before .paste .ensures ∙ ap (sets (a .out .now) (a .to)) (lent (a .s .now) (a .from) (a .from + a .n) (a .n) (omega arith) h)
 
 copy-past-requires : tie.Need-copy-past-requires
 copy-past-requires c κs = search needs
@@ -32,7 +57,11 @@ copy-run-spec =
     tie.close
     (tie.spec
     inside-requires
-    move-run-requires
+    add-paste
+    sub-paste
+    part-paste-start
+    part-paste-end
+    paste-requires
     same-length
     returns
     copy-past-requires

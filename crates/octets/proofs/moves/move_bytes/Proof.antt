@@ -1,4 +1,4 @@
--- `copies::move_bytes` meets its contract. The loop: what is copied so far is a run.
+-- `octets::moves::move_bytes` meets its contract. The loop: what is copied so far is a run.
 -- Assumes nothing.
 use mathlib.Core.Path.{_≡_, refl, ap, _∙_}
 use Prim.Native.Nat.{ℕ, _+_, _-_, _≤_}
@@ -6,10 +6,10 @@ use native.Mathlib.Omega.{arith}
 use lib.ListN.{length, length-set}
 use lib.Seq.{sets}
 use borrow.Author.Needs.{needs}
 use Rattle.octets.specs.Run.{part}
-use Rattle.copies.proofs.Turns.{copy-none, copy-next}
-use Rattle.copies.proofs.move_bytes.Statement.{statement}
-use Rattle.copies.proofs.move_bytes.Tie as tie
+use Rattle.octets.proofs.Turns.{copy-none, copy-next}
+use Rattle.octets.proofs.moves.move_bytes.Statement.{statement}
+use Rattle.octets.proofs.moves.move_bytes.Tie as tie
 
 abbrev Inv-loop : tie.InvT-loop
 Inv-loop out₀ to s from n i₀ out i = (i ≤ n) × (length out ≡ length out₀) × (out ≡ sets out₀ to (part s from i))
