@@ -44,7 +44,9 @@ same-length : tie.Need-same-length
 same-length c = search needs
 
 returns : tie.Need-returns
-returns c = put-each (c .args .out .now) (c .args .at) (c .args .x)
+returns c =
+    let a = c .args in
+    put-each (a .out .now) (a .at) (a .x) _ _ _ _ (omega arith) (omega arith) (omega arith) (omega arith)
 
 pub put-four-spec : {M : Type 1} → statement M
 put-four-spec =
