@@ -1,20 +1,25 @@
 //! The day that is measured: trades over some symbols, one message in fifty behind them a cancel.
 use sorundappa::{Record, Sale};
 
-/// The symbol of a row.
-pub fn symbol(i: usize) -> [u8; 8] {
-    let mut out = [b' '; 8];
-    let text = format!("S{i:03}");
+fn padded<const N: usize>(text: &str) -> [u8; N] {
+    let mut out = [b' '; N];
     out[..text.len()].copy_from_slice(text.as_bytes());
     out
 }
 
+/// The symbol of a row: it differs from the others within its first four bytes.
+pub fn symbol(i: usize) -> [u8; 8] {
+    padded(&format!("S{i:03}"))
+}
+
+/// The symbol of a row of which the last three bytes alone differ from the others'.
+pub fn late_symbol(i: usize) -> [u8; 8] {
+    padded(&format!("AAAAA{i:03}"))
+}
+
 fn sale(i: usize) -> Sale {
-    let mut control = [b' '; 10];
-    let text = (i + 1).to_string();
-    control[..text.len()].copy_from_slice(text.as_bytes());
     Sale {
-        control,
+        control: padded(&(i + 1).to_string()),
         price: 250_000 + (i as u32 * 7919) % 10_000,
         size: 100 + i as u32 % 900,
         condition: *b"@   ",
@@ -79,4 +84,16 @@ pub fn of_last_row(behind: usize, more: usize, symbols: usize) -> Vec<Vec<u8>> {
     (behind..behind + more)
         .map(|i| bytes(Record { symbol: symbol(symbols - 1), ..trade(b'T', i, symbols) }))
         .collect()
+}
+
+/// An event, then so many trades of the first symbol, all of the centre Q.
+pub fn of_one_centre(trades: usize) -> Vec<Vec<u8>> {
+    let event = Record { letter: b'S', event: b'Q', ..Record::default() };
+    let all = (0..trades).map(|i| Record { centre: b'Q', ..trade(b'T', i, 1) });
+    std::iter::once(event).chain(all).map(bytes).collect()
+}
+
+/// A cancel of the first symbol that names no trade of these: it has another centre, which is a key's first byte.
+pub fn of_another_centre() -> Vec<u8> {
+    bytes(Record { centre: b'L', ..trade(b'X', 0, 1) })
 }

@@ -1,13 +1,24 @@
-//! The proved library beside `plain`, the same book in ordinary Rust, in one run: `cargo run --release -p bench`, and with
-//! `-- --sizes` how the cost of a message and of a row grows. `-- --count CALL SIDE` does one call's work once, so that `tools/count` can
-//! have its instructions counted.
+//! The proved library beside `plain`, the same book in ordinary Rust: by the clock, both in one run, or by instructions counted.
 mod count;
 mod day;
+mod messages;
 mod report;
 mod sides;
+mod timed;
+mod work;
 
+use messages::{Messages, Wrapped};
 use report::{compare, head, line};
 use sides::{Plain, Proved, Side};
+use std::process::ExitCode;
+
+const USAGE: &str = "\
+usage: bench                          nanoseconds of a message, a day and a wall on both sides
+       bench --sizes                  how the cost of a message and of a row grows
+       bench --count [CALL..]         instructions of these calls, or of all of them, on each side, as valgrind counts them
+       bench --work CALL SIDE [N]     a call's work alone, for valgrind to count: SIDE is library, plain or limit; N is how many rows or
+                                      lines are passed over; prints how many calls it was
+status 0 all was measured; 1 it could not be; 2 bad usage";
 
 // The best of alternating rounds, in nanoseconds a piece, of two pieces of work that do so many pieces each.
 fn best(
@@ -40,8 +51,8 @@ fn messages_alone() {
 
 fn through_wrapper() {
     println!("\nthrough the wrapper, which makes a Record of the eighty bytes and eighty bytes of a Record:");
-    each_type("read", Proved::wrapped_reads, Plain::reads);
-    each_type("write", Proved::wrapped_writes, Plain::writes);
+    each_type("read", Wrapped::reads, Plain::reads);
+    each_type("write", Wrapped::writes, Plain::writes);
 }
 
 fn whole_day() {
@@ -55,8 +66,17 @@ fn whole_day() {
     assert!(proved.same_as(&plain), "the two books differ after the day");
 }
 
+fn beside_plain() {
+    head();
+    line("", "proved ns", "plain ns", "ratio");
+    messages_alone();
+    whole_day();
+    through_wrapper();
+}
+
 // One day after another of growing size, by the proved library alone.
 fn sizes() {
+    head();
     println!("lines used   ns a trade there   ns a row");
     for lines in [0, 1_024, 4_096, 16_384, 32_768, 60_000] {
         let (trade, row) = Proved::grown(lines, 1);
@@ -69,19 +89,44 @@ fn sizes() {
     }
 }
 
-fn main() {
+fn refused(status: u8, why: &str) -> ExitCode {
+    eprintln!("bench: {why}");
+    ExitCode::from(status)
+}
+
+fn counted(calls: &[String]) -> ExitCode {
+    let known = work::calls();
+    if let Some(strange) = calls.iter().find(|call| !known.contains(&call.as_str())) {
+        return refused(2, &format!("no such call: {strange}; there are {}", known.join(" ")));
+    }
+    match count::count(calls) {
+        Ok(()) => ExitCode::SUCCESS,
+        Err(why) => refused(1, &why),
+    }
+}
+
+fn worked(call: &str, side: &str, passed: &str) -> ExitCode {
+    match passed.parse().ok().and_then(|passed| work::work(call, side, passed)) {
+        Some(calls) => println!("{calls}"),
+        None => return refused(2, &format!("no such work: {call} {side} {passed}")),
+    }
+    ExitCode::SUCCESS
+}
+
+fn main() -> ExitCode {
     let words: Vec<String> = std::env::args().skip(1).collect();
-    if words.first().is_some_and(|word| word == "--count") {
-        count::count(&words[1..]);
-        return;
+    let spelt: Vec<&str> = words.iter().map(String::as_str).collect();
+    match spelt[..] {
+        [] => beside_plain(),
+        ["--sizes"] => sizes(),
+        ["--count", ..] => return counted(&words[1..]),
+        ["--work", call, side] => return worked(call, side, "0"),
+        ["--work", call, side, passed] => return worked(call, side, passed),
+        ["-h" | "--help"] => println!("{USAGE}"),
+        _ => return refused(
+            2,
+            "usage: bench [--sizes | --count [CALL..] | --work CALL SIDE [N]]; --help says more",
+        ),
     }
-    head();
-    if words.iter().any(|word| word == "--sizes") {
-        sizes();
-        return;
-    }
-    line("", "proved ns", "plain ns", "ratio");
-    messages_alone();
-    whole_day();
-    through_wrapper();
+    ExitCode::SUCCESS
 }

@@ -1,19 +1,7 @@
 //! The two books under one set of calls, each timed in nanoseconds.
 use crate::day;
+use crate::timed::timed;
 use std::hint::black_box;
-use std::time::Instant;
-
-// The work that is measured, as a function of its own: `tools/count` counts the instructions of this one and of nothing else.
-#[inline(never)]
-fn the_work(work: impl FnOnce()) {
-    work();
-}
-
-fn timed(work: impl FnOnce()) -> u64 {
-    let start = Instant::now();
-    the_work(work);
-    start.elapsed().as_nanos() as u64
-}
 
 fn symbols() -> Vec<[u8; 8]> {
     (0..256).map(day::symbol).collect()
@@ -22,13 +10,9 @@ fn symbols() -> Vec<[u8; 8]> {
 /// What is measured of a side.
 pub trait Side {
     fn new(rows: usize, lines: usize) -> Self;
-    /// A message read so many times.
-    fn reads(message: &[u8], times: usize) -> u64;
-    /// A message's record written so many times.
-    fn writes(message: &[u8], times: usize) -> u64;
     /// The rooms cleared and a fresh book started.
     fn clear(&mut self);
-    /// A sheet of 256 symbols listed.
+    /// The symbols listed.
     fn list(&mut self, symbols: &[[u8; 8]]);
     /// The messages delivered in order.
     fn deliver(&mut self, messages: &[Vec<u8>]);
@@ -50,8 +34,14 @@ pub trait Side {
         self.list(&symbols());
         timed(|| self.deliver(messages))
     }
+    /// The rows of these symbols read.
+    fn rows(&self, symbols: &[[u8; 8]]) -> u64;
     /// Every row of the sheet read once.
-    fn wall(&self) -> u64;
+    fn wall(&self) -> u64 {
+        self.rows(&symbols())
+    }
+    /// A message that names no line delivered so many times, each under the next number: a refused one uses it up.
+    fn unnamed(&mut self, message: &[u8], times: u64) -> u64;
 }
 
 /// The rooms and the counters of the proved book.
@@ -68,52 +58,9 @@ pub struct Plain {
     lines: Vec<u8>,
 }
 
-impl Proved {
-    /// As `reads`, through the wrapper, which makes a `Record` of the eighty bytes.
-    pub fn wrapped_reads(message: &[u8], times: usize) -> u64 {
-        timed(|| {
-            for _ in 0..times {
-                let _ = black_box(sorundappa::Record::read(black_box(message)));
-            }
-        })
-    }
-
-    /// As `writes`, through the wrapper, which makes eighty bytes of a `Record`.
-    pub fn wrapped_writes(message: &[u8], times: usize) -> u64 {
-        let record = sorundappa::Record::read(message).expect("a lawful message");
-        let mut out = [0; 67];
-        timed(|| {
-            for _ in 0..times {
-                let _ = black_box(black_box(&record).write(black_box(&mut out)));
-            }
-        })
-    }
-}
-
 impl Side for Proved {
     fn new(rows: usize, lines: usize) -> Proved {
         Proved { counters: [0; 5], rows: vec![0; rows * 30], lines: vec![0; lines * 40] }
-    }
-
-    fn reads(message: &[u8], times: usize) -> u64 {
-        timed(|| {
-            for _ in 0..times {
-                let mut record = [0; 80];
-                let told = sorundappa::raw::read(black_box(message), &mut record);
-                black_box((told, &record));
-            }
-        })
-    }
-
-    fn writes(message: &[u8], times: usize) -> u64 {
-        let mut record = [0; 80];
-        assert_eq!(sorundappa::raw::read(message, &mut record), 0, "a lawful message");
-        let mut out = [0; 67];
-        timed(|| {
-            for _ in 0..times {
-                black_box(sorundappa::raw::write(black_box(&record), black_box(&mut out)));
-            }
-        })
     }
 
     fn clear(&mut self) {
@@ -148,14 +95,29 @@ impl Side for Proved {
         }
     }
 
-    fn wall(&self) -> u64 {
+    fn rows(&self, symbols: &[[u8; 8]]) -> u64 {
         let mut row = [0; 15];
-        let symbols = symbols();
         timed(|| {
-            for symbol in &symbols {
+            for symbol in symbols {
                 let told =
                     sorundappa::raw::row(&self.counters, &self.rows, &self.lines, symbol, &mut row);
                 assert_eq!(black_box((told, sorundappa::Row::of(&row))).0, 0);
+            }
+        })
+    }
+
+    fn unnamed(&mut self, message: &[u8], times: u64) -> u64 {
+        let wanted = self.counters[0];
+        timed(|| {
+            for number in wanted..wanted + times {
+                let told = sorundappa::raw::deliver(
+                    &mut self.counters,
+                    &mut self.rows,
+                    &mut self.lines,
+                    number,
+                    message,
+                );
+                assert_eq!(told, 8, "number {number}");
             }
         })
     }
@@ -164,24 +126,6 @@ impl Side for Proved {
 impl Side for Plain {
     fn new(rows: usize, lines: usize) -> Plain {
         Plain { counters: plain::fresh(), rows: vec![0; rows * 30], lines: vec![0; lines * 40] }
-    }
-
-    fn reads(message: &[u8], times: usize) -> u64 {
-        timed(|| {
-            for _ in 0..times {
-                black_box(plain::read(black_box(message)));
-            }
-        })
-    }
-
-    fn writes(message: &[u8], times: usize) -> u64 {
-        let (_, record) = plain::read(message);
-        let mut out = [0; 67];
-        timed(|| {
-            for _ in 0..times {
-                black_box(plain::write(black_box(&record), black_box(&mut out)));
-            }
-        })
     }
 
     fn clear(&mut self) {
@@ -211,12 +155,27 @@ impl Side for Plain {
         }
     }
 
-    fn wall(&self) -> u64 {
-        let symbols = symbols();
+    fn rows(&self, symbols: &[[u8; 8]]) -> u64 {
         timed(|| {
-            for symbol in &symbols {
+            for symbol in symbols {
                 let (told, row) = plain::row(&self.counters, &self.rows, &self.lines, *symbol);
                 assert_eq!(black_box((told, row)).0, plain::Answer::Done);
+            }
+        })
+    }
+
+    fn unnamed(&mut self, message: &[u8], times: u64) -> u64 {
+        let wanted = self.counters.wanted;
+        timed(|| {
+            for number in wanted..wanted + times {
+                let told = plain::deliver(
+                    &mut self.counters,
+                    &mut self.rows,
+                    &mut self.lines,
+                    number,
+                    message,
+                );
+                assert_eq!(told, plain::Answer::NoLine, "number {number}");
             }
         })
     }
