@@ -1,5 +1,5 @@
-//! The rules of a record's fields, each asked as the library asks it: a text byte by byte, the sheet by its words of bits, and every
-//! rule of a record whatever the one before it said.
+//! The rules of a record's fields, each asked as the library asks it: what shows of a text byte by byte and its spaces four at a time, the
+//! sheet by its words of bits, and every rule of a record whatever the one before it said.
 use crate::{
     Record, CENTRE, CLASS, CLOSE, EVENT, HIGH, LETTER, LOW, NEW_SALE, OLD_SALE, SYMBOL, TIME,
 };
@@ -40,14 +40,25 @@ fn four<const AT: usize>(b: &Record) -> u32 {
     u32::from_be(unsafe { b.as_ptr().add(AT).cast::<u32>().read_unaligned() })
 }
 
+// Four bytes of a text as one number.
+fn word<const N: usize>(s: &[u8; N], at: usize) -> u32 {
+    debug_assert!(at + 4 <= N);
+    // SAFETY: `text` asks for no four that end behind its last byte.
+    unsafe { s.as_ptr().add(at).cast::<u32>().read_unaligned() }
+}
+
 // One or more bytes that show, then spaces to the end.
 fn text<const N: usize>(s: &[u8; N]) -> bool {
+    const SPACES: u32 = u32::from_ne_bytes(*b"    ");
     let mut i = 0;
     while i < N && matches!(s[i], 33..=126) {
         i += 1;
     }
     if i == 0 {
         return false;
+    }
+    if (4..=8).contains(&(N - i)) {
+        return (word(s, i) == SPACES) & (word(s, N - 4) == SPACES);
     }
     while i < N {
         if s[i] != b' ' {
