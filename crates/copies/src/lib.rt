@@ -1,5 +1,5 @@
-// Bytes copied from one place to another. Whether all of them stand inside, here and there, is asked once: if so, several
-// go at a time (`octets::run::paste`); past the end of either side they go one by one.
+// Bytes copied from one place to another. Whether all of them stand inside, here and there, is asked first: if so,
+// several go at a time (`octets::run::paste`); past the end of either side they go one by one.
 use octets::run::paste;
 use single::byte;
 use single::byte_past;
@@ -15,7 +15,7 @@ ghost use lib.Seq.{sets};
 ghost use Rattle.octets.specs.Run.{part};
 
 // Whether n bytes stand inside from a place on, in the one run and in the other. Of the other they are lent as a part,
-// and a part starts inside even if it has no bytes.
+// and a part starts inside even if it has no bytes. `paste` asks about the one run again; the compiler asks once.
 fn inside(out: usize, to: usize, s: usize, from: usize, n: usize) -> bool
     ensures { λ r. ⌜ r ≡ leb n (out - to) && (leb n (s - from) && leb from s) ⌝ }
 {

@@ -1,5 +1,6 @@
-//! The reader and the writer of one message, step by step as the proved library has them, but with every load and store unchecked once
-//! the length is known. How far the library is from it is what its checks and its copying still cost. For the bench alone.
+//! The reader and the writer of one message, with the rules of the proved library asked in its order, but with every load and store
+//! unchecked once the length is known. How far the library is from it is what its checks, its calls and its copying still cost. For the
+//! bench alone.
 #![deny(unsafe_op_in_unsafe_fn, clippy::undocumented_unsafe_blocks)]
 
 mod rules;

@@ -40,10 +40,12 @@ fn four<const AT: usize>(b: &Record) -> u32 {
     u32::from_be(unsafe { b.as_ptr().add(AT).cast::<u32>().read_unaligned() })
 }
 
-// Four bytes of a text as one number.
-fn word<const N: usize>(s: &[u8; N], at: usize) -> u32 {
-    debug_assert!(at + 4 <= N);
-    // SAFETY: `text` asks for no four that end behind its last byte.
+/// Four bytes of a text as one number.
+///
+/// # Safety
+/// They end inside the text.
+unsafe fn word<const N: usize>(s: &[u8; N], at: usize) -> u32 {
+    // SAFETY: they end inside, and a number may be loaded from anywhere.
     unsafe { s.as_ptr().add(at).cast::<u32>().read_unaligned() }
 }
 
@@ -58,7 +60,8 @@ fn text<const N: usize>(s: &[u8; N]) -> bool {
         return false;
     }
     if (4..=8).contains(&(N - i)) {
-        return (word(s, i) == SPACES) & (word(s, N - 4) == SPACES);
+        // SAFETY: four bytes or more are left from i on.
+        return unsafe { (word(s, i) == SPACES) & (word(s, N - 4) == SPACES) };
     }
     while i < N {
         if s[i] != b' ' {

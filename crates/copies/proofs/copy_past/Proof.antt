@@ -1,7 +1,7 @@
 -- `copies::copy_past` meets its contract. The loop: what is copied so far is a run.
 -- Assumes nothing.
 use mathlib.Core.Path.{_≡_, refl, ap, _∙_}
-use Prim.Native.Nat.{ℕ, _+_, _-_, _≤_}
+use Prim.Native.Nat.{ℕ, _-_, _≤_}
 use native.Mathlib.Omega.{arith}
 use lib.ListN.{length, length-set}
 use lib.Seq.{sets}
@@ -36,10 +36,13 @@ loop-less c = search needs
 
 loop-again : tie.Need-loop-again Inv-loop μ-loop
 loop-again c =
-    let a = c .before .before .before .before .before .before .before .before .before .args in
-    let l = c .before .before .before .before .before .before .loop in
-    let e = c .before .before .put-past .ensures in
-    let f = c .before .before .before .byte-past .ensures in (
+    let stored = c .before .before in
+    let read = stored .before in
+    let at-loop = read .before .before .before in
+    let a = at-loop .before .before .before .args in
+    let l = at-loop .loop in
+    let e = stored .put-past .ensures in
+    let f = read .byte-past .ensures in (
       omega arith,
       rw e (simp length-set (l .inv .1)),
       simp (e, f, l .inv .2) (copy-next (a .out .now) (a .s .now) (a .to) (a .from) (l .i)),

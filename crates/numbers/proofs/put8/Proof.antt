@@ -26,7 +26,8 @@ returns c =
     let at-last = c .before .before in
     let at-first = at-last .before .before .before .before in
     let a = at-first .before .before .before .before .before .args in
-    simp (at-last .put-four2 .ensures, at-first .put-four .ensures) (put-halves (a .out .now) (a .at) (a .x) _ _ (omega arith) (omega arith))
+    simp (at-last .put-four2 .ensures, at-first .put-four .ensures)
+    (put-halves (a .out .now) (a .at) (a .x) _ _ (omega arith) (omega arith))
 
 put-requires : tie.Need-put-requires
 put-requires c κs = search needs

@@ -1,11 +1,10 @@
 -- `octets::moves::move_bytes` meets its contract. The loop: what is copied so far is a run.
 -- Assumes nothing.
 use mathlib.Core.Path.{_≡_, refl, ap, _∙_}
-use Prim.Native.Nat.{ℕ, _+_, _-_, _≤_}
+use Prim.Native.Nat.{ℕ, _-_, _≤_}
 use native.Mathlib.Omega.{arith}
 use lib.ListN.{length, length-set}
 use lib.Seq.{sets}
-use borrow.Author.Needs.{needs}
 use Rattle.octets.specs.Run.{part}
 use Rattle.octets.proofs.Turns.{copy-none, copy-next}
 use Rattle.octets.proofs.moves.move_bytes.Statement.{statement}

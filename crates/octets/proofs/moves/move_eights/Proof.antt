@@ -49,11 +49,14 @@ loop-less c = search needs
 
 loop-again : tie.Need-loop-again Inv-loop μ-loop
 loop-again c =
-    let known = c .before .before .before .before .before .before .before in
+    let stored = c .before .before in
+    let read = stored .before in
+    let at-loop = read .before .before .before in
+    let known = at-loop .before in
     let a = known .before .before .args in
-    let l = c .before .before .before .before .before .before .loop in
-    let e = c .before .before .put-eight .ensures in
-    let f = c .before .before .before .eight .ensures in
+    let l = at-loop .loop in
+    let e = stored .put-eight .ensures in
+    let f = read .eight .ensures in
     let bytes : Bytes (a .s .now) = λ i. known .shared-slice-known .given i .fits in
     let n : 8 * l .i + 8 ≡ 8 * (l .i + 1) = omega arith in
     let k = ap (λ (k : ℕ). sets (a .out .now) (a .to) (part (a .s .now) (a .from) k)) n in (

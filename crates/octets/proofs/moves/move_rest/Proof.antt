@@ -40,14 +40,15 @@ same-length-2 c = search needs
 
 returns-2 : tie.Need-returns-2
 returns-2 c =
-    let stored = c .before .before .before .before .before .before in
+    let last = c .before .before in
+    let stored = last .before .before .before .before in
     let read = stored .before in
     let known = read .before .before .before in
     let a = known .before .before .args in
     let bytes : Bytes (a .s .now) = λ i. known .shared-slice-known .given i .fits in
     let n : 4 + (a .n - 4) ≡ a .n = omega arith in
     let k = ap (λ (k : ℕ). sets (a .out .now) (a .to) (part (a .s .now) (a .from) k)) n in
-    rw (c .before .before .move-bytes2 .ensures, stored .put-four .ensures, read .four .ensures .0, lows-low (a .s .now) (a .from) 4 bytes)
+    rw (last .move-bytes2 .ensures, stored .put-four .ensures, read .four .ensures .0, lows-low (a .s .now) (a .from) 4 bytes)
     (copy-more (a .out .now) (a .s .now) (a .to) (a .from) 4 (a .n - 4) ∙ k)
 
 pub move-rest-spec : {M : Type 1} → statement M

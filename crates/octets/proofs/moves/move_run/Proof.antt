@@ -33,11 +33,13 @@ same-length c = search needs
 
 returns : tie.Need-returns
 returns c =
-    let a = c .before .before .before .before .before .before .before .before .before .before .args in
+    let last = c .before .before in
+    let first = last .before .before .before .before in
+    let a = first .before .before .before .before .args in
     let f = 8 * (a .n / 8) in
     let n : f + (a .n - f) ≡ a .n = omega arith in
     let k = ap (λ (k : ℕ). sets (a .out .now) (a .to) (part (a .s .now) (a .from) k)) n in
-    rw (c .before .before .move-rest .ensures, c .before .before .before .before .before .before .move-eights .ensures)
+    rw (last .move-rest .ensures, first .move-eights .ensures)
     (copy-more (a .out .now) (a .s .now) (a .to) (a .from) f (a .n - f) ∙ k)
 
 pub move-run-spec : {M : Type 1} → statement M
