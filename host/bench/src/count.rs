@@ -7,15 +7,16 @@ use std::process::{self, Command};
 /// Why nothing was counted.
 type Failed = String;
 
-// The instructions of one call, on a side, with so many rows or lines passed over.
-fn instructions(call: &str, side: &str, passed: usize) -> Result<f64, Failed> {
+// The instructions of one call, on a side, with so many rows or lines passed over if it is those that are counted.
+fn instructions(call: &str, side: &str, passed: Option<usize>) -> Result<f64, Failed> {
     let failed = |why: &str| format!("{call} was not counted: {why}");
     let bench = std::env::current_exe().map_err(|why| failed(&why.to_string()))?;
     let ran = Command::new("valgrind")
         .args(["--tool=callgrind", "--callgrind-out-file=/dev/null", "--collect-atstart=no"])
         .arg("--toggle-collect=*the_work*")
         .arg(bench)
-        .args(["--work", call, side, &passed.to_string()])
+        .args(["--work", call, side])
+        .args(passed.map(|many| many.to_string()))
         .output()
         .map_err(|why| failed(&format!("valgrind: {why}")))?;
     let (out, err) = (String::from_utf8_lossy(&ran.stdout), String::from_utf8_lossy(&ran.stderr));
@@ -31,9 +32,9 @@ fn instructions(call: &str, side: &str, passed: usize) -> Result<f64, Failed> {
 // The instructions of one call; or of one row or line passed over, which is how much more the longer work takes.
 fn counted(call: &str, side: &str) -> Result<f64, Failed> {
     let Some([few, many]) = work::passed(call) else {
-        return instructions(call, side, 0);
+        return instructions(call, side, None);
     };
-    let more = instructions(call, side, many)? - instructions(call, side, few)?;
+    let more = instructions(call, side, Some(many))? - instructions(call, side, Some(few))?;
     Ok(more / (many - few) as f64)
 }
 

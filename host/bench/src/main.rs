@@ -16,8 +16,9 @@ const USAGE: &str = "\
 usage: bench                          nanoseconds of a message, a day and a wall on both sides
        bench --sizes                  how the cost of a message and of a row grows
        bench --count [CALL..]         instructions of these calls, or of all of them, on each side, as valgrind counts them
-       bench --work CALL SIDE [N]     a call's work alone, for valgrind to count: SIDE is library, plain or limit; N is how many rows or
-                                      lines are passed over; prints how many calls it was
+       bench --work CALL SIDE [N]     a call's work alone, for valgrind to count: SIDE is library, plain or limit; N, of a CALL that has
+                                      passed or walked in its name, is how many rows (to 255) or lines (to 60000) it passes over; prints
+                                      how many calls it was
 status 0 all was measured; 1 it could not be; 2 bad usage";
 
 // The best of alternating rounds, in nanoseconds a piece, of two pieces of work that do so many pieces each.
@@ -105,10 +106,19 @@ fn counted(calls: &[String]) -> ExitCode {
     }
 }
 
-fn worked(call: &str, side: &str, passed: &str) -> ExitCode {
-    match passed.parse().ok().and_then(|passed| work::work(call, side, passed)) {
+// `passed` is asked of a call that counts rows or lines passed over, and of no other.
+fn worked(call: &str, side: &str, passed: Option<&str>) -> ExitCode {
+    let many = match (work::passed(call), passed) {
+        (None, None) => Some(0),
+        (Some(_), Some(many)) => many.parse().ok(),
+        _ => None,
+    };
+    match many.and_then(|many| work::work(call, side, many)) {
         Some(calls) => println!("{calls}"),
-        None => return refused(2, &format!("no such work: {call} {side} {passed}")),
+        None => {
+            let words = format!("{call} {side} {}", passed.unwrap_or(""));
+            return refused(2, &format!("no such work: {}", words.trim_end()));
+        }
     }
     ExitCode::SUCCESS
 }
@@ -120,8 +130,8 @@ fn main() -> ExitCode {
         [] => beside_plain(),
         ["--sizes"] => sizes(),
         ["--count", ..] => return counted(&words[1..]),
-        ["--work", call, side] => return worked(call, side, "0"),
-        ["--work", call, side, passed] => return worked(call, side, passed),
+        ["--work", call, side] => return worked(call, side, None),
+        ["--work", call, side, passed] => return worked(call, side, Some(passed)),
         ["-h" | "--help"] => println!("{USAGE}"),
         _ => return refused(
             2,

@@ -8,6 +8,8 @@ const TIMES: usize = 1_000;
 const LONG_TIMES: usize = 100;
 const TRADES: usize = 2_000;
 const ROWS: usize = 256;
+/// The most lines that a work can have passed over.
+const MOST_LINES: usize = 60_000;
 
 /// The calls, in the order of the table. `tools/count` reads the same file.
 pub fn calls() -> Vec<&'static str> {
@@ -54,6 +56,9 @@ fn messages<M: Messages>(way: &str, letter: &str) -> Option<usize> {
 }
 
 fn book<S: Side>(call: &str, passed: usize) -> Option<usize> {
+    if passed > MOST_LINES {
+        return None;
+    }
     let mut side = S::new(ROWS, 65_536);
     match call {
         "listing" => {
@@ -122,5 +127,7 @@ mod tests {
             assert_eq!(work(call, "library", 0), None, "{call}");
         }
         assert_eq!(work("read-S", "strange", 0), None);
+        assert_eq!(work("row-passed-early", "library", 256), None);
+        assert_eq!(work("line-walked", "plain", 60_001), None);
     }
 }
