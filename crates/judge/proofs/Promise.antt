@@ -9,7 +9,7 @@ use borrow.Fn.Kinds.{endedOf}
 use denote.Triple.Clauses.{AtExit}
 use denote.Ref.{now}
 use Rattle.records.specs.Packed.{recordOf}
-use Rattle.packing.specs.Layouts.{layoutOf}
+use Rattle.formats.specs.Formats.{layoutOf}
 use Rattle.judge.specs.Judged.{keptIn, lawfulIn}
 use Rattle.judge.proofs.kept as kept
 use Rattle.judge.proofs.kept.Reads as kept-reads
@@ -25,7 +25,7 @@ module _ (κs : Lfts 1) (a : ArgsD kept.signature κs) where
 
   -- what a caller is told, and nothing else
   pub kept-says : (r : Bool) (s : AtExit (endedOf 1 kept-kinds.ps kept-kinds.r) κs)
-      → kept-reads.Learnt κs a r s ≡ (r ≡ keptIn (layoutOf (a .1 .0)) (recordOf (now (a .0))))
+      → kept-reads.Learnt κs a r s ≡ (r ≡ keptIn (layoutOf (a .0) (a .1 .1 .0)) (recordOf (now (a .1 .0))))
   kept-says r s = refl
 
 module _ (κs : Lfts 1) (a : ArgsD lawful.signature κs) where
@@ -35,5 +35,5 @@ module _ (κs : Lfts 1) (a : ArgsD lawful.signature κs) where
 
   -- what a caller is told, and nothing else
   pub lawful-says : (r : Bool) (s : AtExit (endedOf 1 lawful-kinds.ps lawful-kinds.r) κs)
-      → lawful-reads.Learnt κs a r s ≡ (r ≡ lawfulIn (layoutOf (a .1 .0)) (recordOf (now (a .0))))
+      → lawful-reads.Learnt κs a r s ≡ (r ≡ lawfulIn (layoutOf (a .0) (a .1 .1 .0)) (recordOf (now (a .1 .0))))
   lawful-says r s = refl

@@ -3,14 +3,15 @@
 -- Assumes nothing.
 use Prim.Native.Nat.{ℕ}
 use mathlib.Core.List.{List}
-use mathlib.Core.Bool.{Bool, true, false, _&&_}
+use mathlib.Core.Bool.{Bool, false, _&&_}
 use mathlib.Core.Option.{Option, none, some}
-use Rattle.layout.specs.Forms.{inside, keeps}
-use Rattle.layout.specs.Tables.{Item, fieldOf, formOf, Layout, allFrom}
+use Rattle.editions.specs.declared.Edition.{Edition}
+use Rattle.layout.specs.Forms.{inside}
+use Rattle.layout.specs.Tables.{Layout, the}
 use Rattle.records.specs.declared.Record.{Record}
-use Rattle.records.specs.Held.{holds, kept, lawful}
+use Rattle.records.specs.Held.{kept, lawful}
 use Rattle.rules.specs.Rules as Rules
-use Rattle.packing.specs.Layouts.{layoutBy}
+use Rattle.formats.specs.Formats.{layoutBy}
 
 abbrev pub keptIn : Option Layout → Record → Bool
 keptIn none r = false
@@ -21,15 +22,21 @@ lawfulIn none r = false
 lawfulIn (some l) r = lawful l r
 
 -- by the record's letter
-unfoldable pub lawfulOf : Record → Bool
-lawfulOf r = lawfulIn (layoutBy (r .letter)) r
+unfoldable pub lawfulOf : Edition → Record → Bool
+lawfulOf e r = lawfulIn (layoutBy e (r .letter)) r
 
 -- ---- in pieces, as the code asks them
 
--- the rules of the fields of some lines of a table
-abbrev pub rulesOf : List Item → Record → Bool
-rulesOf es r = allFrom (λ e. keeps (formOf e) (holds r (fieldOf e))) true es
-
 -- the rules of a trade, behind other tests: control, price, size, condition
-unfoldable pub saleRules : Bool → List ℕ → ℕ → ℕ → List ℕ → Bool
-saleRules t c p s d = t && Rules.text c && inside Rules.tradePrice p && inside Rules.size s && Rules.condition d
+unfoldable pub saleRules : Edition → Bool → List ℕ → ℕ → ℕ → List ℕ → Bool
+saleRules e t c p s d = t && Rules.text c && inside Rules.tradePrice p && inside (Rules.size e) s && Rules.condition d
+
+-- the rules of T, X and C to the condition: time, letter, centre, symbol, class, and of the trade
+unfoldable pub tradeRules : Edition → ℕ → Record → Bool
+tradeRules e k r =
+    saleRules e
+    (inside Rules.time (r .time) && the k (r .letter) && Rules.centre e (r .centre) && Rules.text (r .symbol) && Rules.class e (r .class))
+    (r .sale .control)
+    (r .sale .price)
+    (r .sale .size)
+    (r .sale .condition)

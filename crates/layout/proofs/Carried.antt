@@ -10,10 +10,11 @@ use borrow.Author.Tests.{eqb-true, ne-eqb}
 use lib.Dec.{eqb}
 use lib.ListN.{getD}
 use Rattle.octets.specs.Run.{tab, part, all, Bytes}
+use Rattle.octets.proofs.Trips.{all-append}
 use Rattle.numbers.specs.Number.{beAfter, be}
 use Rattle.numbers.proofs.Trips.{digits-part}
 use Rattle.layout.specs.Values.{Field, isZero, is}
-use Rattle.layout.specs.Forms.{Form, byte, big, chars, reads, writes}
+use Rattle.layout.specs.Forms.{Form, byte, big, numeral, chars, reads, writes}
 use Rattle.layout.specs.Tables.{Item, at, fieldOf, widthOf, formOf, stands, look, written, allFrom}
 use Rattle.layout.specs.Carrying.{alike, moved, fetch, carried, runOf, runs, clear}
 use Rattle.layout.proofs.Forms.{both, clash}
@@ -27,12 +28,19 @@ module _ (m : List ℕ) (b : Bytes m) where
   unfolding part tab
   copied (byte p) w (byte q) o n a = rw (eqb-true n 1 a)
   copied (byte p) w (big q) o n a = clash a
+  copied (byte p) w (numeral d q) o n a = clash a
   copied (byte p) w (chars q) o n a = clash a
   copied (big p) w (byte q) o n a = clash a
   copied (big p) w (big q) o n a = rw (eqb-true w n a) (sym (digits-part m o n b))
+  copied (big p) w (numeral d q) o n a = clash a
   copied (big p) w (chars q) o n a = clash a
+  copied (numeral d p) w (byte q) o n a = clash a
+  copied (numeral d p) w (big q) o n a = clash a
+  copied (numeral d p) w (numeral c q) o n a = clash a
+  copied (numeral d p) w (chars q) o n a = clash a
   copied (chars p) w (byte q) o n a = clash a
   copied (chars p) w (big q) o n a = clash a
+  copied (chars p) w (numeral d q) o n a = clash a
   copied (chars p) w (chars q) o n a = refl
 
   one : (j : Form) (w : ℕ) (e : Item) → moved j w e m ≡ writes j w (stands e m)
@@ -57,10 +65,6 @@ module _ (m : List ℕ) (b : Bytes m) where
   carries (e ∷ es) from = ap₂ {C = List ℕ} (λ x y. x ++ y) (fetched from (formOf e) (widthOf e) (fieldOf e)) (carries es from)
 
 -- ---- zeros
-
-pub all-both : (v : ℕ) (xs ys : List ℕ) → all v (xs ++ ys) ≡ all v xs && all v ys
-all-both v [] ys = refl
-all-both v (x ∷ xs) ys = ap (λ (t : Bool). eqb x v && t) (all-both v xs ys) ∙ sym (and-assoc (eqb x v) (all v xs) (all v ys))
 
 digit-zero : (x y : ℕ) → eqb (x * 256 + y) 0 ≡ eqb x 0 && eqb y 0
 digit-zero zero y = rw (zero-mul, zero-add)
@@ -96,6 +100,7 @@ module _ (b : List ℕ) where
       let q = both c in
       found-zero g o n (byte p) es f (byte-zero o n (q .0)) (run-zero es f (q .1))
   run-zero (at g o n (big p) ∷ es) f c = found-zero g o n (big p) es f (number-zero (part b o n)) (run-zero es f c)
+  run-zero (at g o n (numeral d p) ∷ es) f c = clash c
   run-zero (at g o n (chars p) ∷ es) f c = found-zero g o n (chars p) es f refl (run-zero es f c)
 
   -- several fields are, exactly if their bytes together are
@@ -106,4 +111,4 @@ module _ (b : List ℕ) where
       runs-zero es (t && isZero (look es b f)) fs c
       ∙ ap (λ (x : Bool). t && x && all 0 (runs es b fs)) (run-zero es f c)
       ∙ and-assoc t (all 0 (runOf es b f)) (all 0 (runs es b fs))
-      ∙ ap (λ (x : Bool). t && x) (sym (all-both 0 (runOf es b f) (runs es b fs)))
+      ∙ ap (λ (x : Bool). t && x) (sym (all-append 0 (runOf es b f) (runs es b fs)))

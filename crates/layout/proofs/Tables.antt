@@ -16,12 +16,13 @@ use Rattle.layout.specs.Values.{Field, letter, time, event, centre, symb
 use Rattle.layout.specs.Values.{newPrice, newSize, newCondition, high, low, close, consolidated, Value, number, text, Values}
 use Rattle.layout.specs.Values.{isText, isZero, Room, octet, num, txt, roomOf, typed, Typed, sized, Sized, zeroIn, zeroOf}
 use Rattle.layout.specs.Values.{allFields, placeOf, is}
-use Rattle.layout.specs.Forms.{Form, byte, big, chars, reads, writes, keeps, spells, plain, fits, suits}
+use Rattle.layout.specs.Forms.{Form, byte, big, numeral, chars, reads, writes, keeps, spells, plain, fits, suits}
+use Rattle.layout.specs.Forms.{isNumeral}
 use Rattle.layout.specs.Tables.{Item, at, Layout, fieldOf, offsetOf, widthOf, formOf, lacks, distinct, follows, total, isByte}
 use Rattle.layout.specs.Tables.{marks, tiles, bytesAt, stands, look, written, Each, without, lacked, Obeys, Lawful, allFrom}
 use Rattle.layout.specs.Tables.{keptBy, lawfulBy, fitsBy, speltBy, plainBy, obeysBy}
 use Rattle.layout.proofs.Forms.{both, clash, form-length, form-back, form-again, form-kind, form-fits, form-spells, form-sized}
-use Rattle.layout.proofs.Forms.{read-sized, typed-sized, zero-typed}
+use Rattle.layout.proofs.Forms.{form-plain, form-lean, other-plain, read-sized, typed-sized, zero-typed}
 
 -- ---- a test of each element, and what it says
 
@@ -129,6 +130,7 @@ module _ (m : List ℕ) where
   unfolding part tab
   one-byte (byte p) a o n s y i = rw (eqb-true n 1 s, i) (ap (λ (j : ℕ). number (getD m j 0)) (add-zero o))
   one-byte (big r) a o n s y i = clash y
+  one-byte (numeral d r) a o n s y i = clash y
   one-byte (chars p) a o n s y i = clash y
 
   octet-room : (g : Field) (k : Form) (n : ℕ) → is letter g ≡ true → suits k n (roomOf g) ≡ true → suits k n octet ≡ true
@@ -173,12 +175,10 @@ module _ (v : Values) where
 
   -- an entry's bytes are where they were written, and the rest stands behind them
   placed : (m : List ℕ) (g : Field) (a n : ℕ) (k : Form) (es : List Item) (o : ℕ) → follows o (at g a n k ∷ es) ≡ true
-      → fits k n (v g) ≡ true
+      → length (writes k n (v g)) ≡ n
       → drop o m ≡ written (at g a n k ∷ es) v → (part m a n ≡ writes k n (v g)) × (drop (o + n) m ≡ written es v)
-  placed m g a n k es o s t d =
-      let q = both (both s .0) in
-      let e : a ≡ o = eqb-true a o (q .0) in
-      let l : length (writes k n (v g)) ≡ n = form-length k n (v g) (roomOf g) (q .1) t in
+  placed m g a n k es o s l d =
+      let e : a ≡ o = eqb-true a o (both (both s .0) .0) in
       (rw e (here m o n (writes k n (v g)) (written es v) d l), walk m o n (o + n) (writes k n (v g)) (written es v) d l refl)
 
   back : (m : List ℕ) (f : Field) (es : List Item) (o : ℕ) → follows o es ≡ true → allFrom fit true es ≡ true → drop o m ≡ written es v
@@ -188,7 +188,7 @@ module _ (v : Values) where
       let p = both s in
       let q = both {a = eqb a o} (p .0) in
       let u = all-first fit (fits k n (v g)) es t in
-      let x = placed m g a n k es o s (u .0) d in
+      let x = placed m g a n k es o s (form-length k n (v g) (roomOf g) (q .1) (u .0)) d in
       let y : reads k (part m a n) ≡ v g = ap (reads k) (x .0) ∙ form-back k n (v g) (roomOf g) (q .1) (u .0) in
       go (is f g) refl y (λ z. back m f es (o + n) (p .1) (u .1) (x .1) z)
     where
@@ -197,17 +197,45 @@ module _ (v : Values) where
       go true e y r = rw e (y ∙ ap v (sym (same-field f g e)))
       go false e y r = rw e (r (λ h. z (rw e h)))
 
-  -- what is written is spelt
-  passes : (m : List ℕ) (es : List Item) (o : ℕ) → follows o es ≡ true → allFrom fit true es ≡ true → drop o m ≡ written es v
-      → allFrom (λ e. spells (formOf e) (bytesAt e m)) true es ≡ true
-  passes m [] o s t d = refl
-  passes m (at g a n k ∷ es) o s t d =
-      let p = both s in
-      let q = both {a = eqb a o} (p .0) in
-      let u = all-first fit (fits k n (v g)) es t in
-      let x = placed m g a n k es o s (u .0) d in
-      let y : spells k (part m a n) ≡ true = ap (spells k) (x .0) ∙ form-spells k n (v g) (roomOf g) (q .1) (u .0) in
-      rw y (passes m es (o + n) (p .1) (u .1) (x .1))
+  -- what is written passes a test of each field's bytes, if what is written of each value does
+  module _ (test : Form → List ℕ → Bool)
+      (law : (k : Form) (n : ℕ) (x : Value) (z : Room) → suits k n z ≡ true → fits k n x ≡ true → test k (writes k n x) ≡ true) where
+    passes : (m : List ℕ) (es : List Item) (o : ℕ) → follows o es ≡ true → allFrom fit true es ≡ true → drop o m ≡ written es v
+        → allFrom (λ e. test (formOf e) (bytesAt e m)) true es ≡ true
+    passes m [] o s t d = refl
+    passes m (at g a n k ∷ es) o s t d =
+        let p = both s in
+        let q = both {a = eqb a o} (p .0) in
+        let u = all-first fit (fits k n (v g)) es t in
+        let x = placed m g a n k es o s (form-length k n (v g) (roomOf g) (q .1) (u .0)) d in
+        let y : test k (part m a n) ≡ true = ap (test k) (x .0) ∙ law k n (v g) (roomOf g) (q .1) (u .0) in
+        rw y (passes m es (o + n) (p .1) (u .1) (x .1))
+
+  -- what stood in a message and was read into the values is there again, but for digits
+  module _ (m : List ℕ) (b : Bytes m) where
+    kept-outside : (m′ : List ℕ) (es : List Item) (o : ℕ) → follows o es ≡ true → Sized v → drop o m′ ≡ written es v
+        → Each (λ e. v (fieldOf e) ≡ stands e m) es → Each (λ e. isNumeral (formOf e) ≡ false → bytesAt e m′ ≡ bytesAt e m) es
+    kept-outside m′ [] o s y d h = tt
+    kept-outside m′ (at g a n k ∷ es) o s y d h =
+        let p = both s in
+        let q = both {a = eqb a o} (p .0) in
+        let x = placed m′ g a n k es o s (form-sized k n (v g) (roomOf g) (q .1) (y g)) d in (
+          λ z. x .0 ∙ ap (writes k n) (h .0) ∙ form-again k m a n (roomOf g) b (q .1) (other-plain k (part m a n) z),
+          kept-outside m′ es (o + n) (p .1) y (x .1) (h .1),
+        )
+
+    -- what is written as it stood was plain
+    plain-all : (es : List Item) (o : ℕ) → follows o es ≡ true → Sized v → drop o m ≡ written es v
+        → Each (λ e. v (fieldOf e) ≡ stands e m) es → allFrom (λ e. spells (formOf e) (bytesAt e m)) true es ≡ true
+        → allFrom (λ e. plain (formOf e) (bytesAt e m)) true es ≡ true
+    plain-all [] o s y d h t = refl
+    plain-all (at g a n k ∷ es) o s y d h t =
+        let p = both s in
+        let q = both {a = eqb a o} (p .0) in
+        let x = placed m g a n k es o s (form-sized k n (v g) (roomOf g) (q .1) (y g)) d in
+        let u = all-first (λ e. spells (formOf e) (bytesAt e m)) (spells k (part m a n)) es t in
+        let w : writes k n (reads k (part m a n)) ≡ part m a n = ap (writes k n) (sym (h .0)) ∙ sym (x .0) in
+        rw (form-plain k m a n (roomOf g) (q .1) (u .0) w) (plain-all es (o + n) (p .1) y (x .1) (h .1) (u .1))
 
   written-length : (es : List Item) (o : ℕ) → follows o es ≡ true → Sized v → length (written es v) ≡ total es
   written-length [] o s y = refl
@@ -381,6 +409,16 @@ module _ (l : Layout) (t : tiles l ≡ true) where
   unfolding plainBy
   layout-again m b h p = again m b (look es m) es 0 (parts .0) p (layout-found m) ∙ whole m (total es) (h ∙ sym (parts .1))
 
+  -- and bytes that are spelt and are written as they were read are plain
+  pub layout-plain : (m : List ℕ) → Bytes m → speltBy l m ≡ true → written es (look es m) ≡ m → plainBy l m ≡ true
+  unfolding plainBy speltBy
+  layout-plain m b t e = plain-all (look es m) m b es 0 (parts .0) (layout-sized m) (sym e) (layout-found m) t
+
+  -- and all but digits is written as it was read
+  pub layout-outside : (m : List ℕ) → Bytes m
+      → Each (λ e. isNumeral (formOf e) ≡ false → bytesAt e (written es (look es m)) ≡ bytesAt e m) es
+  layout-outside m b = kept-outside (look es m) m b (written es (look es m)) es 0 (parts .0) (layout-sized m) refl (layout-found m)
+
   -- (b) what is lawful has room, and is read as it was written
   pub lawful-fits : (v : Values) → Typed v → lawfulBy l v ≡ true → fitsBy l v ≡ true
   unfolding fitsBy lawfulBy keptBy
@@ -399,7 +437,12 @@ module _ (l : Layout) (t : tiles l ≡ true) where
 
   pub layout-spelt : (v : Values) → fitsBy l v ≡ true → speltBy l (written es v) ≡ true
   unfolding fitsBy speltBy
-  layout-spelt v g = passes v (written es v) es 0 (parts .0) g refl
+  layout-spelt v g = passes v spells form-spells (written es v) es 0 (parts .0) g refl
+
+  -- in the form that we write
+  pub layout-lean : (v : Values) → fitsBy l v ≡ true → plainBy l (written es v) ≡ true
+  unfolding fitsBy plainBy
+  layout-lean v g = passes v plain form-lean (written es v) es 0 (parts .0) g refl
 
   -- (c) the rules of what is read are those of the bytes, and then it is lawful
   pub layout-kept : (m : List ℕ) → keptBy l (look es m) ≡ allFrom (λ e. keeps (formOf e) (stands e m)) true es

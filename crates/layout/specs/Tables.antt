@@ -9,7 +9,7 @@ use lib.Dec.{eqb}
 use lib.ListN.{length}
 use Rattle.octets.specs.Run.{part}
 use Rattle.layout.specs.Values.{Field, letter, Value, Values, roomOf, zeroOf, isZero, allFields, is}
-use Rattle.layout.specs.Forms.{Form, byte, big, chars, reads, writes, keeps, spells, plain, fits, suits, narrow}
+use Rattle.layout.specs.Forms.{Form, byte, big, numeral, chars, reads, writes, keeps, spells, plain, fits, suits, narrow, ready}
 
 -- a line of a table: field, offset, width, form with its rule
 pub data Item : Type 0 where
@@ -20,6 +20,10 @@ pub record Layout : Type 0 where
   pub size : ℕ
   pub place : ℕ
   pub entries : List Item
+
+-- the rule of a letter's byte: it is that letter
+abbrev pub the : ℕ → ℕ → Bool
+the k x = eqb x k
 
 abbrev pub fieldOf : Item → Field
 fieldOf (at f o n k) = f
@@ -56,6 +60,7 @@ total (e ∷ es) = widthOf e + total es
 abbrev pub isByte : Form → Bool
 isByte (byte p) = true
 isByte (big r) = false
+isByte (numeral d r) = false
 isByte (chars p) = false
 
 -- the letter stands at a place
@@ -67,7 +72,7 @@ marks o (e ∷ es) = cond (is letter (fieldOf e)) (eqb (offsetOf e) o && isByte 
 unfoldable pub tiles : Layout → Bool
 tiles l = follows 0 (l .entries) && eqb (total (l .entries)) (l .size) && distinct (l .entries) && marks (l .place) (l .entries)
 
--- what is read by the table has room in a record, whatever the bytes are
+-- what is read by the table, and keeps its rules, has room in a record
 abbrev pub allNarrow : List Item → Bool
 allNarrow [] = true
 allNarrow (e ∷ es) = narrow (formOf e) (widthOf e) (roomOf (fieldOf e)) && allNarrow es
@@ -147,3 +152,7 @@ plainBy l m = allFrom (λ e. plain (formOf e) (bytesAt e m)) true (l .entries)
 -- the length, each field spelt, each rule kept
 unfoldable pub obeysBy : Layout → List ℕ → Bool
 obeysBy l m = eqb (length m) (l .size) && speltBy l m && allFrom (λ e. keeps (formOf e) (stands e m)) true (l .entries)
+
+-- each field can be stored in a record
+unfoldable pub readyBy : Layout → List ℕ → Bool
+readyBy l m = allFrom (λ e. ready (formOf e) (roomOf (fieldOf e)) (bytesAt e m)) true (l .entries)

@@ -1,19 +1,24 @@
--- The writer by hand: what writing an event into a few bytes answers and leaves. The figures are document 01's and come from no
--- definition, so a refused call that changes the space, in the code and in its definition alike, is found here.
+-- The writer by hand: what writing an event into a few bytes answers and leaves, by each edition. The figures are document 01's and 02's
+-- and come from no definition, so a refused call that changes the space, in the code and in its definition alike, is found here.
 -- Assumes nothing.
 use Prim.Native.Nat.{ℕ}
 use mathlib.Core.Path.{_≡_, refl}
 use mathlib.Core.List.{List, [], _∷_}
 use lib.ListN.{replicate}
 use Rattle.answers.specs.Answers.{numberOf}
+use Rattle.editions.specs.declared.Edition.the-variants.{NlsPlus, Pls}
+use Rattle.editions.specs.declared.Edition.{Edition}
 use Rattle.kinds.specs.Kinds as Kinds
 use Rattle.numbers.specs.Number as Number
 use Rattle.layout.specs.Tables as Tables
 use Rattle.records.specs.declared.Sale.{Sale}
 use Rattle.records.specs.declared.Record.{Record}
 use Rattle.records.specs.Held as Held
-use Rattle.packing.specs.Layouts as Layouts
-use Rattle.packing.specs.Packing as Packing
+use Rattle.decimal.specs.Decimal as Decimal
+use Rattle.digits.specs.Field as Field
+use Rattle.packing.specs.Layouts as Plus
+use Rattle.pls.specs.Layouts as Ascii
+use Rattle.formats.specs.Formats as Formats
 use Rattle.judge.specs.Judged as Judged
 use Rattle.message.specs.Writer.{writeAnswer, writeOut}
 
@@ -38,21 +43,32 @@ event e =
       consolidated = 0;
     }
 
-unfoldable pub answered : ℕ → List ℕ → ℕ
-unfolding writeAnswer Judged.lawfulOf Packing.lengthBy Kinds.kindOf Layouts.layoutS Tables.lawfulBy Tables.keptBy Tables.lacked Held.holds
-answered e out = numberOf (writeAnswer (event e) out)
+unfoldable pub answered : Edition → ℕ → List ℕ → ℕ
+unfolding writeAnswer Judged.lawfulOf Formats.lengthBy Kinds.kindOf Plus.layoutS Ascii.layoutS Tables.lawfulBy Tables.keptBy Tables.lacked
+    Held.holds
+answered d e out = numberOf (writeAnswer d (event e) out)
 
-unfoldable pub left : ℕ → List ℕ → List ℕ
-unfolding writeOut Judged.lawfulOf Packing.lengthBy Packing.bytesOf Kinds.kindOf Layouts.layoutS Tables.lawfulBy Tables.keptBy Tables.lacked
-    Held.holds Held.writeBy Number.digits
-left e out = writeOut (event e) out
+unfoldable pub left : Edition → ℕ → List ℕ → List ℕ
+unfolding writeOut Judged.lawfulOf Formats.lengthBy Formats.bytesOf Kinds.kindOf Plus.layoutS Ascii.layoutS Tables.lawfulBy Tables.keptBy
+    Tables.lacked Held.holds Held.writeBy Number.digits Field.shownIn Decimal.digitCount Decimal.lowest
+left d e out = writeOut d (event e) out
 
--- event O into eight, six and five bytes, and into none; an event that is none into eight and into five
-pub writes : (answered 79 (replicate 8 7) ≡ 0) × (left 79 (replicate 8 7) ≡ 0 ∷ 0 ∷ 1 ∷ 2 ∷ 83 ∷ 79 ∷ 7 ∷ 7 ∷ [])
-    × (answered 79 (replicate 6 7) ≡ 0) × (left 79 (replicate 6 7) ≡ 0 ∷ 0 ∷ 1 ∷ 2 ∷ 83 ∷ 79 ∷ [])
-    × (answered 79 (replicate 5 7) ≡ 18) × (left 79 (replicate 5 7) ≡ 7 ∷ 7 ∷ 7 ∷ 7 ∷ 7 ∷ [])
-    × (answered 79 [] ≡ 18) × (left 79 [] ≡ [])
-    × (answered 80 (replicate 8 7) ≡ 5) × (left 80 (replicate 8 7) ≡ 7 ∷ 7 ∷ 7 ∷ 7 ∷ 7 ∷ 7 ∷ 7 ∷ 7 ∷ [])
-    × (answered 80 (replicate 5 7) ≡ 5) × (left 80 (replicate 5 7) ≡ 7 ∷ 7 ∷ 7 ∷ 7 ∷ 7 ∷ [])
+-- NLS Plus: event O into eight, six and five bytes, and into none; an event that is none into eight and into five
+pub writes : (answered NlsPlus 79 (replicate 8 7) ≡ 0) × (left NlsPlus 79 (replicate 8 7) ≡ 0 ∷ 0 ∷ 1 ∷ 2 ∷ 83 ∷ 79 ∷ 7 ∷ 7 ∷ [])
+    × (answered NlsPlus 79 (replicate 6 7) ≡ 0) × (left NlsPlus 79 (replicate 6 7) ≡ 0 ∷ 0 ∷ 1 ∷ 2 ∷ 83 ∷ 79 ∷ [])
+    × (answered NlsPlus 79 (replicate 5 7) ≡ 18) × (left NlsPlus 79 (replicate 5 7) ≡ 7 ∷ 7 ∷ 7 ∷ 7 ∷ 7 ∷ [])
+    × (answered NlsPlus 79 [] ≡ 18) × (left NlsPlus 79 [] ≡ [])
+    × (answered NlsPlus 80 (replicate 8 7) ≡ 5) × (left NlsPlus 80 (replicate 8 7) ≡ 7 ∷ 7 ∷ 7 ∷ 7 ∷ 7 ∷ 7 ∷ 7 ∷ 7 ∷ [])
+    × (answered NlsPlus 80 (replicate 5 7) ≡ 5) × (left NlsPlus 80 (replicate 5 7) ≡ 7 ∷ 7 ∷ 7 ∷ 7 ∷ 7 ∷ [])
 unfolding answered left
 writes = (refl, refl, refl, refl, refl, refl, refl, refl, refl, refl, refl, refl)
+
+-- PLS: event O into eleven, ten and nine bytes, and into none; an event that is none into ten
+pub writes-digits : (answered Pls 79 (replicate 11 7) ≡ 0)
+    × (left Pls 79 (replicate 11 7) ≡ 32 ∷ 32 ∷ 32 ∷ 32 ∷ 32 ∷ 50 ∷ 53 ∷ 56 ∷ 83 ∷ 79 ∷ 7 ∷ [])
+    × (answered Pls 79 (replicate 10 7) ≡ 0) × (left Pls 79 (replicate 10 7) ≡ 32 ∷ 32 ∷ 32 ∷ 32 ∷ 32 ∷ 50 ∷ 53 ∷ 56 ∷ 83 ∷ 79 ∷ [])
+    × (answered Pls 79 (replicate 9 7) ≡ 18) × (left Pls 79 (replicate 9 7) ≡ replicate 9 7)
+    × (answered Pls 79 [] ≡ 18) × (left Pls 79 [] ≡ [])
+    × (answered Pls 80 (replicate 10 7) ≡ 5) × (left Pls 80 (replicate 10 7) ≡ replicate 10 7)
+unfolding answered left
+writes-digits = (refl, refl, refl, refl, refl, refl, refl, refl, refl, refl)

@@ -2,49 +2,51 @@
 -- and whatever record `write` is given fits its types, is said beside their proofs (`entered` in `read/Proof` and `write/Proof`).
 -- Assumes nothing.
 use mathlib.Core.Path.{_≡_, ap, sym, subst}
+use mathlib.Core.Bool.{true}
 use mathlib.Core.List.{List}
 use mathlib.Core.Option.{Option, none, some}
 use Prim.Native.Nat.{ℕ, _<_}
 use lib.Dec.{lit<}
-use lib.ListN.{getD}
 use Rattle.octets.specs.Run.{Bytes}
 use Rattle.octets.proofs.Bytes.{none-bytes, zeros-bytes}
+use Rattle.editions.specs.declared.Edition.{Edition}
 use Rattle.kinds.specs.Kinds.{kindOf}
 use Rattle.layout.specs.Values.{centre, symbol, control, condition, newControl, newCondition, Value, number, text, octet, txt, roomOf}
 use Rattle.layout.specs.Tables.{Layout, look}
+use Rattle.layout.proofs.Good.{Good, All}
 use Rattle.layout.proofs.Rooms.{OfBytes, look-bytes}
 use Rattle.records.specs.declared.Sale.{Sale}
 use Rattle.records.specs.declared.Record.{Record}
 use Rattle.records.specs.Fits.{RecordFits}
 use Rattle.records.specs.Zeros.{noSale, noRecord}
-use Rattle.records.specs.Held.{numberIn, textIn, saleFrom, newFrom, recordFrom, readBy}
+use Rattle.records.specs.Held.{numberIn, textIn, saleFrom, newFrom, recordFrom, readBy, filledIn}
 use Rattle.records.proofs.Fitting.{no-record-fits}
-use Rattle.records.proofs.Held.{read-typed, typed-fits}
+use Rattle.records.proofs.Held.{read-typed, typed-fits, obeys-stored}
 use Rattle.message.specs.declared.Reading.{Reading}
-use Rattle.packing.specs.Layouts.{letterPlace, layoutBy}
-use Rattle.packing.specs.Packing.{filledIn, fieldsOf}
-use Rattle.message.specs.Reader.{readOf}
-use Rattle.packing.proofs.Good.{Good, All, good}
+use Rattle.formats.specs.Formats.{letterPlace, letterIn, layoutFor, fieldsOf}
+use Rattle.formats.proofs.Good.{good}
+use Rattle.message.specs.Reader.{obeysIn, readOf}
 use Rattle.message.proofs.Said.{Said, unshaped, unkept, obeyed, said}
 
-filled-fits : (o : Option Layout) → All Good o → (m : List ℕ) → Bytes m → RecordFits (filledIn o m)
-filled-fits none h m b = no-record-fits
-filled-fits (some l) h m b = typed-fits (readBy l m) (read-typed l (h .tiled) (h .narrow) m b)
+filled-fits : (e : Edition) (o : Option Layout) → All (Good (letterPlace e)) o → (m : List ℕ) → Bytes m → obeysIn o m ≡ true
+    → RecordFits (filledIn o m)
+filled-fits e none h m b y = no-record-fits
+filled-fits e (some l) h m b y =
+    typed-fits (readBy l m) (read-typed l (h .tiled) (h .narrow) m b (obeys-stored l (h .tiled) (h .narrow) m y))
 
 -- a record that was read, or was handed back for a refusal, fits its types
-pub read-fits : (m : List ℕ) → Bytes m → RecordFits (readOf m .found)
+pub read-fits : (e : Edition) (m : List ℕ) → Bytes m → RecordFits (readOf e m .found)
 unfolding fieldsOf
-read-fits m b = go (said m)
+read-fits e m b = go (said e m)
   where
-    as-found : (r : Record) → readOf m .found ≡ r → RecordFits r → RecordFits (readOf m .found)
-    as-found r e f = subst RecordFits (sym e) f
+    as-found : (r : Record) → readOf e m .found ≡ r → RecordFits r → RecordFits (readOf e m .found)
+    as-found r q f = subst RecordFits (sym q) f
 
-    go : Said m → RecordFits (readOf m .found)
-    go (unshaped e q) = as-found noRecord (ap (λ (a : Reading). a .found) q) no-record-fits
-    go (unkept e f q) = as-found noRecord (ap (λ (a : Reading). a .found) q) no-record-fits
-    go (obeyed e l q) =
-        let k = getD m letterPlace 0 in
-        as-found (fieldsOf m) (ap (λ (a : Reading). a .found) q) (filled-fits (layoutBy k) (good (kindOf k)) m b)
+    go : Said e m → RecordFits (readOf e m .found)
+    go (unshaped s q) = as-found noRecord (ap (λ (a : Reading). a .found) q) no-record-fits
+    go (unkept s f q) = as-found noRecord (ap (λ (a : Reading). a .found) q) no-record-fits
+    go (obeyed s l q) =
+        as-found (fieldsOf e m) (ap (λ (a : Reading). a .found) q) (filled-fits e (layoutFor e m) (good e (kindOf (letterIn e m))) m b l)
 
 -- ---- what is read from bytes is of bytes
 
@@ -73,10 +75,10 @@ text-in c (number x) h = none-bytes
 text-in c (text xs) h = h
 
 -- by any layout
-filled-bytes : (o : Option Layout) → All Good o → (m : List ℕ) → Bytes m → RecordBytes (filledIn o m)
+filled-bytes : (e : Edition) (o : Option Layout) → All (Good (letterPlace e)) o → (m : List ℕ) → Bytes m → RecordBytes (filledIn o m)
 unfolding readBy recordFrom saleFrom newFrom roomOf
-filled-bytes none h m b = no-record-bytes
-filled-bytes (some l) h m b =
+filled-bytes e none h m b = no-record-bytes
+filled-bytes e (some l) h m b =
     let v = look (l .entries) m in
     let f = look-bytes m b (l .entries) (h .narrow) in
     record {
@@ -87,16 +89,15 @@ filled-bytes (some l) h m b =
     }
 
 -- a record that was read, or was handed back for a refusal, is of bytes
-pub read-bytes : (m : List ℕ) → Bytes m → RecordBytes (readOf m .found)
+pub read-bytes : (e : Edition) (m : List ℕ) → Bytes m → RecordBytes (readOf e m .found)
 unfolding fieldsOf
-read-bytes m b = go (said m)
+read-bytes e m b = go (said e m)
   where
-    as-found : (r : Record) → readOf m .found ≡ r → RecordBytes r → RecordBytes (readOf m .found)
-    as-found r e f = subst RecordBytes (sym e) f
+    as-found : (r : Record) → readOf e m .found ≡ r → RecordBytes r → RecordBytes (readOf e m .found)
+    as-found r q f = subst RecordBytes (sym q) f
 
-    go : Said m → RecordBytes (readOf m .found)
-    go (unshaped e q) = as-found noRecord (ap (λ (a : Reading). a .found) q) no-record-bytes
-    go (unkept e f q) = as-found noRecord (ap (λ (a : Reading). a .found) q) no-record-bytes
-    go (obeyed e l q) =
-        let k = getD m letterPlace 0 in
-        as-found (fieldsOf m) (ap (λ (a : Reading). a .found) q) (filled-bytes (layoutBy k) (good (kindOf k)) m b)
+    go : Said e m → RecordBytes (readOf e m .found)
+    go (unshaped s q) = as-found noRecord (ap (λ (a : Reading). a .found) q) no-record-bytes
+    go (unkept s f q) = as-found noRecord (ap (λ (a : Reading). a .found) q) no-record-bytes
+    go (obeyed s l q) =
+        as-found (fieldsOf e m) (ap (λ (a : Reading). a .found) q) (filled-bytes e (layoutFor e m) (good e (kindOf (letterIn e m))) m b)

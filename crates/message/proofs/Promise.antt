@@ -30,7 +30,7 @@ use Rattle.message.proofs.write_packed.Kinds as write-packed-kinds
 module _ (κs : Lfts 1) (a : ArgsD read.signature κs) where
   -- what `read` tells of a message is what `readOf` says of its bytes, and nothing else
   pub read-says : (r : Reading) (s : AtExit (endedOf 1 read-kinds.ps read-kinds.r) κs)
-      → read-reads.Learnt κs a r s ≡ (r ≡ readOf (now (a .0)))
+      → read-reads.Learnt κs a r s ≡ (r ≡ readOf (a .0) (now (a .1 .0)))
   read-says r s = refl
 
   pub read-one : (r r′ : Reading) (s s′ : AtExit (endedOf 1 read-kinds.ps read-kinds.r) κs) → read-reads.Learnt κs a r s
@@ -39,29 +39,31 @@ module _ (κs : Lfts 1) (a : ArgsD read.signature κs) where
 
 module _ (κs : Lfts 1) (a : ArgsD write.signature κs) where
   pub write-says : (r : Answer) (s : AtExit (endedOf 1 write-kinds.ps write-kinds.r) κs)
-      → write-reads.Learnt κs a r s ≡ ((r ≡ writeAnswer (a .0) (now (a .1 .0))) × (now (s .1 .0) ≡ writeOut (a .0) (now (a .1 .0))))
+      → write-reads.Learnt κs a r s
+      ≡ ((r ≡ writeAnswer (a .0) (a .1 .0) (now (a .1 .1 .0))) × (now (s .1 .1 .0) ≡ writeOut (a .0) (a .1 .0) (now (a .1 .1 .0))))
   write-says r s = refl
 
   pub write-one : (r r′ : Answer) (s s′ : AtExit (endedOf 1 write-kinds.ps write-kinds.r) κs)
-      → write-reads.Learnt κs a r s → write-reads.Learnt κs a r′ s′ → (r ≡ r′) × (now (s .1 .0) ≡ now (s′ .1 .0))
+      → write-reads.Learnt κs a r s → write-reads.Learnt κs a r′ s′ → (r ≡ r′) × (now (s .1 .1 .0) ≡ now (s′ .1 .1 .0))
   write-one r r′ s s′ h h′ = (h .0 ∙ sym (h′ .0), h .1 ∙ sym (h′ .1))
 
 module _ (κs : Lfts 2) (a : ArgsD read-packed.signature κs) where
   pub read-packed-one : (r r′ : Answer) (s s′ : AtExit (endedOf 2 read-packed-kinds.ps read-packed-kinds.r) κs)
-      → read-packed-reads.Learnt κs a r s → read-packed-reads.Learnt κs a r′ s′ → (r ≡ r′) × (now (s .1 .0) ≡ now (s′ .1 .0))
+      → read-packed-reads.Learnt κs a r s → read-packed-reads.Learnt κs a r′ s′ → (r ≡ r′) × (now (s .1 .1 .0) ≡ now (s′ .1 .1 .0))
   read-packed-one r r′ s s′ h h′ = (h .0 ∙ sym (h′ .0), h .1 ∙ sym (h′ .1))
 
   pub read-packed-says : (r : Answer) (s : AtExit (endedOf 2 read-packed-kinds.ps read-packed-kinds.r) κs)
-      → read-packed-reads.Learnt κs a r s ≡ ((r ≡ readOf (now (a .0)) .answer) × (now (s .1 .0) ≡ recordBytes (readOf (now (a .0)) .found)))
+      → read-packed-reads.Learnt κs a r s
+      ≡ ((r ≡ readOf (a .0) (now (a .1 .0)) .answer) × (now (s .1 .1 .0) ≡ recordBytes (readOf (a .0) (now (a .1 .0)) .found)))
   read-packed-says r s = refl
 
 module _ (κs : Lfts 2) (a : ArgsD write-packed.signature κs) where
   pub write-packed-one : (r r′ : Answer) (s s′ : AtExit (endedOf 2 write-packed-kinds.ps write-packed-kinds.r) κs)
-      → write-packed-reads.Learnt κs a r s → write-packed-reads.Learnt κs a r′ s′ → (r ≡ r′) × (now (s .1 .0) ≡ now (s′ .1 .0))
+      → write-packed-reads.Learnt κs a r s → write-packed-reads.Learnt κs a r′ s′ → (r ≡ r′) × (now (s .1 .1 .0) ≡ now (s′ .1 .1 .0))
   write-packed-one r r′ s s′ h h′ = (h .0 ∙ sym (h′ .0), h .1 .0 ∙ sym (h′ .1 .0))
 
   pub write-packed-says : (r : Answer) (s : AtExit (endedOf 2 write-packed-kinds.ps write-packed-kinds.r) κs)
       → write-packed-reads.Learnt κs a r s
-      ≡ ((r ≡ writeAnswer (recordOf (now (a .0))) (now (a .1 .0))) ×
-      ((now (s .1 .0) ≡ writeOut (recordOf (now (a .0))) (now (a .1 .0))) × RecordFits (recordOf (now (a .0)))))
+      ≡ ((r ≡ writeAnswer (a .0) (recordOf (now (a .1 .0))) (now (a .1 .1 .0))) ×
+      ((now (s .1 .1 .0) ≡ writeOut (a .0) (recordOf (now (a .1 .0))) (now (a .1 .1 .0))) × RecordFits (recordOf (now (a .1 .0)))))
   write-packed-says r s = refl

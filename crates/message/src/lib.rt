@@ -1,14 +1,15 @@
-// One message of the feed, read from bytes and written to bytes. A record is filled, judged and stored as its eighty
-// bytes (`records::packed`); as a struct it is made once, at the end of `read`, and taken apart once, at the start of
-// `write`. Nothing here goes by the type: `packing` has each type's fields moved, and `judge` asks its rules.
+// One message of an edition of the feed, read from bytes and written to bytes. A record is filled, judged and stored as
+// its eighty bytes (`records::packed`); as a struct it is made once, at the end of `read`, and taken apart once, at the
+// start of `write`. Nothing here goes by the type: `formats` has each type's fields moved, and `judge` asks its rules.
 use answers::Answer;
+use editions::Edition;
+use formats::length_of;
+use formats::letter_place;
+use formats::store;
+use formats::unpack;
 use judge::kept;
 use judge::lawful;
 use kinds::kind_of;
-use packing::M_LETTER;
-use packing::length_of;
-use packing::store;
-use packing::unpack;
 use records::RECORD;
 use records::Record;
 use records::packed::letter;
@@ -27,18 +28,18 @@ pub struct Reading {
 
 // Reads a message into the eighty bytes of its record, for a caller who keeps records as bytes. Answers 0, 4 or 5;
 // where not 0, all eighty are 0.
-pub fn read_packed(message: &[u8], b: &mut [u8; RECORD]) -> Answer
-    ensures answer { λ a. ⌜ a ≡ readOf (now (message .entry)) .answer ⌝ }
-    ensures bytes { λ a. ⌜ now (b .exit) ≡ recordBytes (readOf (now (message .entry)) .found) ⌝ }
+pub fn read_packed(edition: Edition, message: &[u8], b: &mut [u8; RECORD]) -> Answer
+    ensures answer { λ a. ⌜ a ≡ readOf edition (now (message .entry)) .answer ⌝ }
+    ensures bytes { λ a. ⌜ now (b .exit) ≡ recordBytes (readOf edition (now (message .entry)) .found) ⌝ }
 {
-    let kind = kind_of(byte(message, M_LETTER));
-    let need = length_of(kind);
+    let kind = kind_of(byte(message, letter_place(edition)));
+    let need = length_of(edition, kind);
     if (need == 0) | (message.len() != need) {
         *b = [0u8; RECORD];
         return Answer::NoType;
     }
-    unpack(b, message, kind);
-    if kept(b, kind) {
+    let ready = unpack(edition, b, message, kind);
+    if ready & kept(edition, b, kind) {
         return Answer::Done;
     }
     *b = [0u8; RECORD];
@@ -46,11 +47,11 @@ pub fn read_packed(message: &[u8], b: &mut [u8; RECORD]) -> Answer
 }
 
 // Reads a message as a record. Answers 0, 4 or 5.
-pub fn read(message: &[u8]) -> Reading
-    ensures { λ r. ⌜ r ≡ readOf (now (message .entry)) ⌝ }
+pub fn read(edition: Edition, message: &[u8]) -> Reading
+    ensures { λ r. ⌜ r ≡ readOf edition (now (message .entry)) ⌝ }
 {
     let mut b = [0u8; RECORD];
-    let a = read_packed(message, &mut b);
+    let a = read_packed(edition, message, &mut b);
     Reading {
         answer: a,
         found: records::packed::record(&b),
@@ -59,15 +60,15 @@ pub fn read(message: &[u8]) -> Reading
 
 // Writes the message of the record that eighty bytes are at the front of out, and leaves the rest of out as it was.
 // Answers 0, 5 or 18; where not 0, out stays. Any eighty bytes are a record that fits its types.
-pub fn write_packed(b: &[u8; RECORD], out: &mut [u8]) -> Answer
-    ensures answer { λ a. ⌜ a ≡ writeAnswer (recordOf (now (b .entry))) (now (out .entry)) ⌝ }
-    ensures left { λ a. ⌜ now (out .exit) ≡ writeOut (recordOf (now (b .entry))) (now (out .entry)) ⌝ }
+pub fn write_packed(edition: Edition, b: &[u8; RECORD], out: &mut [u8]) -> Answer
+    ensures answer { λ a. ⌜ a ≡ writeAnswer edition (recordOf (now (b .entry))) (now (out .entry)) ⌝ }
+    ensures left { λ a. ⌜ now (out .exit) ≡ writeOut edition (recordOf (now (b .entry))) (now (out .entry)) ⌝ }
     ensures fits { λ a. ⌜ RecordFits (recordOf (now (b .entry))) ⌝ }
 {
     let kind = kind_of(letter(b));
-    if lawful(b, kind) {
-        if length_of(kind) <= out.len() {
-            store(out, b, kind);
+    if lawful(edition, b, kind) {
+        if length_of(edition, kind) <= out.len() {
+            store(edition, out, b, kind);
             return Answer::Done;
         }
         return Answer::NoSpace;
@@ -77,11 +78,11 @@ pub fn write_packed(b: &[u8; RECORD], out: &mut [u8]) -> Answer
 
 // Writes the message of a record at the front of out, and leaves the rest of out as it was. Answers 0, 5 or 18; where
 // not 0, out stays.
-pub fn write(r: Record, out: &mut [u8]) -> Answer
-    ensures answer { λ a. ⌜ a ≡ writeAnswer r (now (out .entry)) ⌝ }
-    ensures left { λ a. ⌜ now (out .exit) ≡ writeOut r (now (out .entry)) ⌝ }
+pub fn write(edition: Edition, r: Record, out: &mut [u8]) -> Answer
+    ensures answer { λ a. ⌜ a ≡ writeAnswer edition r (now (out .entry)) ⌝ }
+    ensures left { λ a. ⌜ now (out .exit) ≡ writeOut edition r (now (out .entry)) ⌝ }
 {
     let mut b = [0u8; RECORD];
     records::packed::put_record(&mut b, r);
-    write_packed(&b, out)
+    write_packed(edition, &b, out)
 }

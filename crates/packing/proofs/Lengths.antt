@@ -1,4 +1,4 @@
--- The lengths of the types' messages: as printed, by their letters, and the least and the greatest.
+-- The lengths of the types' messages: as printed, by their letters, and the bounds that all are within.
 -- Assumes nothing.
 use mathlib.Core.Path.{_≡_, refl, ap, _∙_}
 use mathlib.Core.Logic.{_⊎_, inl, inr}
@@ -12,7 +12,7 @@ use Rattle.kinds.specs.declared.Kind.{Kind}
 use Rattle.kinds.specs.Kinds.{letterOf, allKinds, kindAmong, kindOf}
 use Rattle.kinds.proofs.Laws.{passes, every}
 use Rattle.packing.specs.Layouts.{layoutS, layoutT, layoutC, layoutJ, printedLengths}
-use Rattle.packing.specs.Packing.{lengthOf, longest, lengthBy}
+use Rattle.packing.specs.Packing.{lengthOf, lengthBy}
 
 -- ---- computed over the list of types
 
@@ -28,11 +28,10 @@ record Computed : Type 0 where
   pub printed : map lengthOf allKinds ≡ printedLengths
   pub long : passes (λ k. not (eqb (lengthOf k) 0)) allKinds ≡ true
   pub within : passes some allKinds ≡ true
-  pub top : longest ≡ 67
 
 computed : Computed
 unfolding layoutS layoutT layoutC layoutJ
-computed = record { printed = refl; long = refl; within = refl; top = refl }
+computed = record { printed = refl; long = refl; within = refl }
 
 -- the lengths are as printed
 pub lengths-printed : map lengthOf allKinds ≡ printedLengths
@@ -51,17 +50,6 @@ length-some k = go (eqb (lengthOf k) 0) refl (every some (computed .within) refl
     go false t e =
         let p = and-eq-true-iff (leb 6 (lengthOf k)) (leb (lengthOf k) 67) .0 e in
         inr (leb-true 6 (lengthOf k) (p .0), leb-true (lengthOf k) 67 (p .1))
-
-pub longest-is : longest ≡ 67
-longest-is = computed .top
-
--- no type's messages are longer
-pub length-longest : (k : Kind) → lengthOf k ≤ longest
-length-longest k = rw longest-is (go (length-some k))
-  where
-    go : Some (lengthOf k) → lengthOf k ≤ 67
-    go (inl z) = omega (arith, z)
-    go (inr h) = h .1
 
 -- ---- by the letters
 

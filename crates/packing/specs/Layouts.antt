@@ -2,25 +2,20 @@
 -- Assumes nothing.
 use Prim.Native.Nat.{ℕ}
 use mathlib.Core.List.{List, [], _∷_}
-use mathlib.Core.Bool.{Bool}
 use mathlib.Core.Option.{Option, none, some}
-use lib.Dec.{eqb}
+use Rattle.editions.specs.declared.Edition.the-variants.{NlsPlus}
 use Rattle.kinds.specs.declared.Kind.{Kind}
 use Rattle.kinds.specs.declared.Kind.the-variants.{Event, Trade, Cancel, Correction, Summary, Other}
 use Rattle.kinds.specs.Kinds.{letterOf, kindOf}
 use Rattle.layout.specs.Values.{letter, time, event, centre, symbol, class, control, price, size, condition, newControl, newPrice}
 use Rattle.layout.specs.Values.{newSize, newCondition, high, low, close, consolidated}
 use Rattle.layout.specs.Forms.{byte, big, chars}
-use Rattle.layout.specs.Tables.{Item, at, Layout}
+use Rattle.layout.specs.Tables.{Item, at, Layout, the}
 use Rattle.rules.specs.Rules as Rules
 
 -- where every layout has its letter
 abbrev pub letterPlace : ℕ
 letterPlace = 4
-
--- the byte is that letter
-abbrev pub the : ℕ → ℕ → Bool
-the k x = eqb x k
 
 -- S, 6 long
 unfoldable pub layoutS : Layout
@@ -40,12 +35,12 @@ abbrev pub toCondition : ℕ → List Item → List Item
 toCondition k rest =
     at time 0 4 (big Rules.time)
     ∷ at letter 4 1 (byte (the k))
-    ∷ at centre 5 1 (byte Rules.centre)
+    ∷ at centre 5 1 (byte (Rules.centre NlsPlus))
     ∷ at symbol 6 8 (chars Rules.text)
-    ∷ at class 14 1 (byte Rules.class)
+    ∷ at class 14 1 (byte (Rules.class NlsPlus))
     ∷ at control 15 10 (chars Rules.text)
     ∷ at price 25 4 (big Rules.tradePrice)
-    ∷ at size 29 4 (big Rules.size)
+    ∷ at size 29 4 (big (Rules.size NlsPlus))
     ∷ at condition 33 4 (chars Rules.condition)
     ∷ rest
 
@@ -68,7 +63,7 @@ layoutC =
           toCondition (letterOf Correction)
           (at newControl 37 10 (chars Rules.text)
           ∷ at newPrice 47 4 (big Rules.tradePrice)
-          ∷ at newSize 51 4 (big Rules.size)
+          ∷ at newSize 51 4 (big (Rules.size NlsPlus))
           ∷ at newCondition 55 4 (chars Rules.condition)
           ∷ at consolidated 59 8 (big Rules.consolidated)
           ∷ []);
@@ -84,7 +79,7 @@ layoutJ =
           at time 0 4 (big Rules.time)
           ∷ at letter 4 1 (byte (the (letterOf Summary)))
           ∷ at symbol 5 8 (chars Rules.text)
-          ∷ at class 13 1 (byte Rules.class)
+          ∷ at class 13 1 (byte (Rules.class NlsPlus))
           ∷ at high 14 4 (big Rules.summaryPrice)
           ∷ at low 18 4 (big Rules.summaryPrice)
           ∷ at close 22 4 (big Rules.summaryPrice)

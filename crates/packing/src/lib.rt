@@ -1,4 +1,4 @@
-// The types' layouts at work: the fields of a message moved to their places in the eighty bytes of a record
+// The layouts of NLS Plus 2.0 at work: the fields of a message moved to their places in the eighty bytes of a record
 // (`records::packed`), and back. What each contract says is computed from the layout of the type
 // (`specs/Layouts.antt`); the code is straight-line, one function for a type and a way.
 use copies::copy_byte;
@@ -16,10 +16,10 @@ use records::TIME;
 ghost use mathlib.Core.Path.{_≡_};
 ghost use lib.ListN.{replicate};
 ghost use lib.Seq.{sets};
-ghost use Rattle.records.specs.Held.{readBy, writeBy};
+ghost use Rattle.records.specs.Held.{readBy, writeBy, filledIn, bytesIn};
 ghost use Rattle.records.specs.Packed.{recordLength, recordOf, recordBytes};
 ghost use Rattle.packing.specs.Layouts.{layoutS, layoutT, layoutC, layoutJ, layoutOf};
-ghost use Rattle.packing.specs.Packing.{lengthOf, filledIn, bytesIn};
+ghost use Rattle.packing.specs.Packing.{lengthOf};
 
 // The bytes of a message of each type; an X is as long as a T.
 pub const S_LENGTH: usize = 6;
@@ -29,9 +29,6 @@ pub const T_LENGTH: usize = 45;
 pub const C_LENGTH: usize = 67;
 
 pub const J_LENGTH: usize = 34;
-
-// The longest of them.
-pub const LONGEST: usize = C_LENGTH;
 
 // Where a message has its time, its letter, and what stands behind the letter.
 const M_TIME: usize = 0;

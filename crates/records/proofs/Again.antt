@@ -8,7 +8,7 @@ use Prim.Native.Nat.{ℕ}
 use lib.ListN.{length, getD}
 use Rattle.octets.specs.Run.{all, Bytes}
 use Rattle.layout.specs.Values.{Values, roomOf, isZero, Typed, Sized}
-use Rattle.layout.specs.Tables.{Layout, tiles, allNarrow, look, written, lacked, allFrom, keptBy, lawfulBy, plainBy}
+use Rattle.layout.specs.Tables.{Layout, tiles, allNarrow, look, written, lacked, allFrom, keptBy, lawfulBy, plainBy, readyBy}
 use Rattle.layout.specs.Carrying.{carried, runs}
 use Rattle.layout.proofs.Carried.{carries, runs-zero}
 use Rattle.records.specs.declared.Record.{Record}
@@ -35,10 +35,14 @@ packed-narrow : allNarrow (packed .entries) ≡ true
 unfolding packed slots roomOf
 packed-narrow = refl
 
+packed-ready : (b : List ℕ) → readyBy packed b ≡ true
+unfolding readyBy packed slots
+packed-ready b = refl
+
 -- the record that bytes are fits its types
 pub packed-fits : (b : List ℕ) → Bytes b → RecordFits (recordOf b)
 unfolding recordOf
-packed-fits b g = typed-fits (recordOf b) (read-typed packed packed-tiles packed-narrow b g)
+packed-fits b g = typed-fits (recordOf b) (read-typed packed packed-tiles packed-narrow b g (packed-ready b))
 
 packed-lawful : (r : Record) → lawful packed r ≡ true
 unfolding lawfulBy keptBy lacked packed slots holds

@@ -11,13 +11,14 @@ use Rattle.octets.specs.Run.{Bytes}
 use Rattle.layout.specs.Values.{Field, letter, time, event, centre, symbol, class, control, price, size, condition, newControl}
 use Rattle.layout.specs.Values.{newPrice, newSize, newCondition, high, low, close, consolidated, Value, number, text, Values, isText}
 use Rattle.layout.specs.Values.{isZero, roomOf, Typed, Sized, zeroOf}
-use Rattle.layout.specs.Forms.{keeps}
-use Rattle.layout.specs.Tables.{Layout, fieldOf, formOf, tiles, allNarrow, stands, look, written, Each, lacked, allFrom, keptBy}
-use Rattle.layout.specs.Tables.{lawfulBy, speltBy, plainBy, obeysBy}
-use Rattle.layout.proofs.Forms.{clash, typed-sized}
+use Rattle.layout.specs.Forms.{keeps, isNumeral}
+use Rattle.layout.specs.Tables.{Layout, fieldOf, formOf, tiles, allNarrow, bytesAt, stands, look, written, Each, lacked, allFrom, keptBy}
+use Rattle.layout.specs.Tables.{lawfulBy, speltBy, plainBy, obeysBy, readyBy}
+use Rattle.layout.proofs.Forms.{both, clash, typed-sized}
 use Rattle.layout.proofs.Tables.{layout-found, layout-none, layout-sized, layout-kinds, layout-letter, layout-again, lawful-fits}
+use Rattle.layout.proofs.Tables.{layout-plain, layout-outside, layout-lean}
 use Rattle.layout.proofs.Tables.{layout-back, layout-long, layout-spelt, layout-kept, layout-lawful, layout-obeys}
-use Rattle.layout.proofs.Rooms.{look-typed}
+use Rattle.layout.proofs.Rooms.{look-typed, obeys-ready, ready-spelt}
 use Rattle.records.specs.declared.Record.{Record}
 use Rattle.records.specs.Fits.{SaleFits, RecordFits}
 use Rattle.records.specs.Held.{holds, numberIn, textIn, saleFrom, newFrom, recordFrom, readBy, writeBy, kept, lawful}
@@ -128,17 +129,29 @@ module _ (l : Layout) (t : tiles l ≡ true) where
   unfolding readBy recordFrom
   read-letter m = ap numberIn (layout-letter l t m)
 
-  -- what is read has its types' lengths, and what is read from bytes fits its types
+  -- what is read has its types' lengths, and what is read from bytes that can be stored fits its types
   pub read-long : (m : List ℕ) → Sized (holds (readBy l m))
   read-long m = rw (read-values m) (layout-sized l t m)
 
-  pub read-typed : allNarrow (l .entries) ≡ true → (m : List ℕ) → Bytes m → Typed (holds (readBy l m))
-  read-typed n m b = rw (read-values m) (look-typed m b (l .entries) n)
+  pub read-typed : allNarrow (l .entries) ≡ true → (m : List ℕ) → Bytes m → readyBy l m ≡ true → Typed (holds (readBy l m))
+  unfolding readyBy
+  read-typed n m b y = rw (read-values m) (look-typed m b (l .entries) n y)
 
   -- (a) bytes that are plain are written as they were read
   pub read-written : (m : List ℕ) → Bytes m → length m ≡ l .size → plainBy l m ≡ true → writeBy l (readBy l m) ≡ m
   unfolding writeBy
   read-written m b h p = ap (written (l .entries)) (read-values m) ∙ layout-again l t m b h p
+
+  -- and bytes that are spelt and are written as they were read are plain
+  pub read-plain : (m : List ℕ) → Bytes m → speltBy l m ≡ true → writeBy l (readBy l m) ≡ m → plainBy l m ≡ true
+  unfolding writeBy
+  read-plain m b s e = layout-plain l t m b s (sym (ap (written (l .entries)) (read-values m)) ∙ e)
+
+  -- and all but digits is written as it was read
+  pub read-outside : (m : List ℕ) → Bytes m
+      → Each (λ e. isNumeral (formOf e) ≡ false → bytesAt e (writeBy l (readBy l m)) ≡ bytesAt e m) (l .entries)
+  unfolding writeBy
+  read-outside m b = rw (read-values m) (layout-outside l t m b)
 
   -- (b) a lawful record is read as it was written
   pub written-read : (r : Record) → Typed (holds r) → lawful l r ≡ true → readBy l (writeBy l r) ≡ r
@@ -155,6 +168,17 @@ module _ (l : Layout) (t : tiles l ≡ true) where
   pub obeys-lawful : (m : List ℕ) → obeysBy l m ≡ eqb (length m) (l .size) && speltBy l m && lawful l (readBy l m)
   obeys-lawful m = layout-obeys l t m ∙ ap (λ (v : Values). eqb (length m) (l .size) && speltBy l m && lawfulBy l v) (sym (read-values m))
 
+  -- what obeys can be stored, and what can be stored is spelt
+  pub obeys-stored : allNarrow (l .entries) ≡ true → (m : List ℕ) → obeysBy l m ≡ true → readyBy l m ≡ true
+  unfolding obeysBy speltBy readyBy
+  obeys-stored n m o =
+      let p = both {a = eqb (length m) (l .size) && speltBy l m} o in
+      obeys-ready m (l .entries) n (both {a = eqb (length m) (l .size)} (p .0) .1) (p .1)
+
+  pub stored-spelt : (m : List ℕ) → readyBy l m ≡ true → speltBy l m ≡ true
+  unfolding speltBy readyBy
+  stored-spelt m y = ready-spelt m (l .entries) y
+
   -- and what a message fills is lawful exactly if it keeps the rules of the fields that the layout has
   pub fields-kept : (m : List ℕ) → kept l (readBy l m) ≡ lawful l (readBy l m)
   fields-kept m = subst (λ (v : Values). keptBy l v ≡ lawfulBy l v) (sym (read-values m)) (layout-lawful l t m)
@@ -167,3 +191,8 @@ module _ (l : Layout) (t : tiles l ≡ true) where
       let n = layout-long l t (holds r) (λ f. typed-sized (roomOf f) (holds r f) (y f)) in
       let e : lawful l (readBy l (writeBy l r)) ≡ true = ap (lawful l) (written-read r y o) ∙ o in
       obeys-lawful (writeBy l r) ∙ rw (eq-eqb (length (writeBy l r)) (l .size) n, layout-spelt l t (holds r) f, e)
+
+  -- and each of its numbers is in the form that we write
+  pub written-plain : (r : Record) → Typed (holds r) → lawful l r ≡ true → plainBy l (writeBy l r) ≡ true
+  unfolding writeBy
+  written-plain r y o = layout-lean l t (holds r) (lawful-fits l t (holds r) y o)

@@ -1,13 +1,16 @@
--- A record as the values of its fields, and what a table says of records: to read one, to write one, to be lawful.
+-- A record as the values of its fields, and what a table says of records: to read one, to write one, to be lawful. And the same of a type
+-- that may have no table.
 -- Assumes nothing.
 use Prim.Native.Nat.{ℕ}
 use mathlib.Core.List.{List, []}
-use mathlib.Core.Bool.{Bool}
+use mathlib.Core.Bool.{Bool, true}
+use mathlib.Core.Option.{Option, none, some}
 use Rattle.layout.specs.Values.{Field, letter, time, event, centre, symbol, class, control, price, size, condition, newControl}
 use Rattle.layout.specs.Values.{newPrice, newSize, newCondition, high, low, close, consolidated, Value, number, text, Values}
-use Rattle.layout.specs.Tables.{Layout, look, written, lawfulBy, keptBy}
+use Rattle.layout.specs.Tables.{Layout, look, written, lawfulBy, keptBy, readyBy}
 use Rattle.records.specs.declared.Sale.{Sale}
 use Rattle.records.specs.declared.Record.{Record}
+use Rattle.records.specs.Zeros.{noRecord}
 
 -- what a record holds in a field
 unfoldable pub holds : Record → Field → Value
@@ -86,3 +89,25 @@ kept l r = keptBy l (holds r)
 -- and has nothing in the others
 abbrev pub lawful : Layout → Record → Bool
 lawful l r = lawfulBy l (holds r)
+
+-- ---- by the table of a type, where it has one
+
+-- the length of its messages; 0 of what is no type
+abbrev pub sizeIn : Option Layout → ℕ
+sizeIn none = 0
+sizeIn (some l) = l .size
+
+-- the record that a message fills
+abbrev pub filledIn : Option Layout → List ℕ → Record
+filledIn none m = noRecord
+filledIn (some l) m = readBy l m
+
+-- whether each of its fields can be stored
+abbrev pub readyIn : Option Layout → List ℕ → Bool
+readyIn none m = true
+readyIn (some l) m = readyBy l m
+
+-- the message of a record
+abbrev pub bytesIn : Option Layout → Record → List ℕ
+bytesIn none r = []
+bytesIn (some l) r = writeBy l r

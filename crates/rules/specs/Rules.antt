@@ -1,9 +1,11 @@
--- The field rules, one definition each, in the order of document 01. The rule of a number is a range (`inside`), the rule of a byte or of a
--- text is a test.
+-- The field rules, one definition each, in the order of document 01; those that differ between the editions are said of the edition. The
+-- rule of a number is a range (`inside`), the rule of a byte or of a text is a test.
 -- Assumes nothing.
 use Prim.Native.Nat.{ℕ}
 use mathlib.Core.List.{List, [], _∷_}
 use mathlib.Core.Bool.{Bool}
+use Rattle.editions.specs.declared.Edition.{Edition}
+use Rattle.editions.specs.declared.Edition.the-variants.{NlsPlus, Pls}
 use Rattle.texts.specs.Text as Texts
 use Rattle.conditions.specs.Conditions.{among, conditionMarks}
 use Rattle.phases.specs.Phases.{events}
@@ -17,13 +19,21 @@ time = upTo 86399999
 abbrev pub event : ℕ → Bool
 event e = among events e
 
--- Q (Nasdaq), L (TRF), B (BX), X (PSX)
-abbrev pub centre : ℕ → Bool
-centre c = among (81 ∷ 76 ∷ 66 ∷ 88 ∷ []) c
+-- NLS Plus: Q (Nasdaq), L (TRF), B (BX), X (PSX); PLS: X
+abbrev pub centres : Edition → List ℕ
+centres NlsPlus = 81 ∷ 76 ∷ 66 ∷ 88 ∷ []
+centres Pls = 88 ∷ []
 
--- one of Q N A P Z B
-abbrev pub class : ℕ → Bool
-class c = among (81 ∷ 78 ∷ 65 ∷ 80 ∷ 90 ∷ 66 ∷ []) c
+abbrev pub centre : Edition → ℕ → Bool
+centre e c = among (centres e) c
+
+-- NLS Plus: one of Q N A P Z B; PLS: one of Q N A P Z
+abbrev pub classes : Edition → List ℕ
+classes NlsPlus = 81 ∷ 78 ∷ 65 ∷ 80 ∷ 90 ∷ 66 ∷ []
+classes Pls = 81 ∷ 78 ∷ 65 ∷ 80 ∷ 90 ∷ []
+
+abbrev pub class : Edition → ℕ → Bool
+class e c = among (classes e) c
 
 -- symbol and control: one or more bytes 33 to 126, then spaces to the end
 abbrev pub text : List ℕ → Bool
@@ -41,9 +51,10 @@ tradePrice = within 1 priceTop
 abbrev pub summaryPrice : Range
 summaryPrice = upTo priceTop
 
--- 1 to 4,294,967,295
-abbrev pub size : Range
-size = within 1 4294967295
+-- NLS Plus: 1 to 4,294,967,295; PLS: 1 to 999,999,999, which nine digits hold
+abbrev pub size : Edition → Range
+size NlsPlus = within 1 4294967295
+size Pls = within 1 999999999
 
 -- any
 abbrev pub consolidated : Range

@@ -1,8 +1,11 @@
-// The field rules of document 01, each asked of one value. Which layout asks which rule of which field is said by the
-// tables in `packing`. The rule of a symbol or a control is `texts::is_text`; a consolidated volume has none.
+// The field rules of document 01 and of the editions, each asked of one value. Which layout asks which rule of which
+// field is said by the tables in `packing` and `pls`. The rule of a symbol or a control is `texts::is_text`; a
+// consolidated volume has none.
+use editions::Edition;
 use phases::phase_of;
 ghost use mathlib.Core.Path.{_≡_};
 ghost use mathlib.Core.List.{[], _∷_};
+ghost use Rattle.editions.specs.declared.Edition.the-variants.{NlsPlus, Pls};
 ghost use Rattle.layout.specs.Forms.{inside};
 ghost use Rattle.rules.specs.Rules as Rules;
 
@@ -23,18 +26,51 @@ pub fn event_ok(e: u8) -> bool
     phase_of(e) != 0
 }
 
-// Whether a byte is one of the four centres.
-pub fn centre_ok(c: u8) -> bool
-    ensures { λ r. ⌜ r ≡ Rules.centre c ⌝ }
+// Whether a byte is one of NLS Plus's centres.
+fn plus_centre(c: u8) -> bool
+    ensures { λ r. ⌜ r ≡ Rules.centre NlsPlus c ⌝ }
 {
-    (c == b'Q') | (c == b'L') | (c == b'B') | (c == b'X')
+    match c {
+        b'Q' => true,
+        b'L' => true,
+        b'B' => true,
+        b'X' => true,
+        _ => false,
+    }
 }
 
-// Whether a byte is one of the six classes.
-pub fn class_ok(c: u8) -> bool
-    ensures { λ r. ⌜ r ≡ Rules.class c ⌝ }
+// Whether a byte is one of an edition's centres.
+pub fn centre_ok(edition: Edition, c: u8) -> bool
+    ensures { λ r. ⌜ r ≡ Rules.centre edition c ⌝ }
 {
-    (c == b'Q') | (c == b'N') | (c == b'A') | (c == b'P') | (c == b'Z') | (c == b'B')
+    match edition {
+        Edition::NlsPlus => plus_centre(c),
+        Edition::Pls => c == b'X',
+    }
+}
+
+// Whether a byte is one of the classes that every edition has.
+fn shared_class(c: u8) -> bool
+    ensures { λ r. ⌜ r ≡ Rules.class Pls c ⌝ }
+{
+    match c {
+        b'Q' => true,
+        b'N' => true,
+        b'A' => true,
+        b'P' => true,
+        b'Z' => true,
+        _ => false,
+    }
+}
+
+// Whether a byte is one of an edition's classes.
+pub fn class_ok(edition: Edition, c: u8) -> bool
+    ensures { λ r. ⌜ r ≡ Rules.class edition c ⌝ }
+{
+    match edition {
+        Edition::NlsPlus => shared_class(c) | (c == b'B'),
+        Edition::Pls => shared_class(c),
+    }
 }
 
 // Whether a price may stand in a trade: 0 may not.
@@ -51,11 +87,14 @@ pub fn summary_price_ok(price: u32) -> bool
     price <= PRICE_TOP
 }
 
-// Whether a size may stand in a trade: any that four bytes hold but 0.
-pub fn size_ok(s: u32) -> bool
-    ensures { λ r. ⌜ r ≡ inside Rules.size s ⌝ }
+// Whether a size may stand in a trade of an edition: any but 0 that four bytes hold, or nine digits.
+pub fn size_ok(edition: Edition, s: u32) -> bool
+    ensures { λ r. ⌜ r ≡ inside (Rules.size edition) s ⌝ }
 {
-    (1 <= s) & (s <= 4294967295)
+    match edition {
+        Edition::NlsPlus => (1 <= s) & (s <= 4294967295),
+        Edition::Pls => (1 <= s) & (s <= 999999999),
+    }
 }
 
 // Whether four bytes are a condition: one code from each row of the sheet, in the order of the rows.

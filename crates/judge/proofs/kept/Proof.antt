@@ -1,10 +1,9 @@
 -- `judge::kept` meets its contract.
 -- Assumes nothing.
-use mathlib.Core.Path.{ap, sym, _∙_}
-use Rattle.kinds.specs.declared.Kind.{Kind}
+use mathlib.Core.Path.{refl, _∙_}
 use Rattle.records.specs.Packed.{recordOf}
-use Rattle.packing.specs.Layouts.{layoutOf}
 use Rattle.judge.specs.Judged.{keptIn}
+use Rattle.judge.proofs.Asked.{s-laid, t-laid, x-laid, c-laid, other-laid, laid}
 use borrow.Author.Needs.{needs}
 use Rattle.judge.proofs.kept.Statement.{statement}
 use Rattle.judge.proofs.kept.Tie as tie
@@ -36,39 +35,41 @@ kept-c-requires c κs = search needs
 enum-told-5 : tie.Need-enum-told-5
 enum-told-5 c = search needs
 
-kept-j-requires : tie.Need-kept-j-requires
-kept-j-requires c κs = search needs
+kept-summary-requires : tie.Need-kept-summary-requires
+kept-summary-requires c κs = search needs
 
 enum-told-6 : tie.Need-enum-told-6
 enum-told-6 c = search needs
 
 returns : tie.Need-returns
 returns c =
-    let b = c .before .before .before .args .b .now in
-    c .kept-s .ensures ∙ sym (ap (λ (k : Kind). keptIn (layoutOf k) (recordOf b)) (c .before .enum-told .given .1))
+    let a = c .before .before .before .args in
+    c .kept-s .ensures ∙ laid keptIn (a .edition) (recordOf (a .b .now)) (s-laid (a .edition)) (c .before .enum-told .given .1)
 
 returns-2 : tie.Need-returns-2
 returns-2 c =
-    let b = c .before .before .before .args .b .now in
-    c .kept-t .ensures ∙ sym (ap (λ (k : Kind). keptIn (layoutOf k) (recordOf b)) (c .before .enum-told2 .given .1))
+    let a = c .before .before .before .args in
+    c .kept-t .ensures ∙ laid keptIn (a .edition) (recordOf (a .b .now)) (t-laid (a .edition)) (c .before .enum-told2 .given .1)
 
 returns-3 : tie.Need-returns-3
 returns-3 c =
-    let b = c .before .before .before .args .b .now in
-    c .kept-t2 .ensures ∙ sym (ap (λ (k : Kind). keptIn (layoutOf k) (recordOf b)) (c .before .enum-told3 .given .1))
+    let a = c .before .before .before .args in
+    c .kept-t2 .ensures ∙ laid keptIn (a .edition) (recordOf (a .b .now)) (x-laid (a .edition)) (c .before .enum-told3 .given .1)
 
 returns-4 : tie.Need-returns-4
 returns-4 c =
-    let b = c .before .before .before .args .b .now in
-    c .kept-c .ensures ∙ sym (ap (λ (k : Kind). keptIn (layoutOf k) (recordOf b)) (c .before .enum-told4 .given .1))
+    let a = c .before .before .before .args in
+    c .kept-c .ensures ∙ laid keptIn (a .edition) (recordOf (a .b .now)) (c-laid (a .edition)) (c .before .enum-told4 .given .1)
 
 returns-5 : tie.Need-returns-5
 returns-5 c =
-    let b = c .before .before .before .args .b .now in
-    c .kept-j .ensures ∙ sym (ap (λ (k : Kind). keptIn (layoutOf k) (recordOf b)) (c .before .enum-told5 .given .1))
+    let a = c .before .before .before .args in
+    c .kept-summary .ensures ∙ laid keptIn (a .edition) (recordOf (a .b .now)) refl (c .before .enum-told5 .given .1)
 
 returns-6 : tie.Need-returns-6
-returns-6 c = sym (ap (λ (k : Kind). keptIn (layoutOf k) (recordOf (c .before .before .args .b .now))) (c .enum-told6 .given .1))
+returns-6 c =
+    let a = c .before .before .args in
+    laid keptIn (a .edition) (recordOf (a .b .now)) (other-laid (a .edition)) (c .enum-told6 .given .1)
 
 pub kept-spec : {M : Type 1} → statement M
 kept-spec =
@@ -83,7 +84,7 @@ kept-spec =
     enum-told-4
     kept-c-requires
     enum-told-5
-    kept-j-requires
+    kept-summary-requires
     enum-told-6
     returns
     returns-2

@@ -1,13 +1,9 @@
 -- `judge::kept_c` meets its contract.
 -- Assumes nothing.
-use mathlib.Core.Path.{sym}
-use mathlib.Core.Bool.{and-true}
 use Rattle.octets.specs.Run.{tab, part}
-use Rattle.layout.specs.Tables.{keptBy}
-use Rattle.records.specs.Held.{holds, readBy, recordFrom, saleFrom, newFrom}
+use Rattle.records.specs.Held.{readBy, recordFrom, newFrom}
 use Rattle.records.specs.Packed.{slots, packed, recordOf}
-use Rattle.packing.specs.Layouts.{layoutC}
-use Rattle.judge.specs.Judged.{saleRules}
+use Rattle.judge.proofs.Asked.{c-rules}
 use borrow.Author.Needs.{needs}
 use Rattle.judge.proofs.kept_c.Statement.{statement}
 use Rattle.judge.proofs.kept_c.Tie as tie
@@ -31,12 +27,14 @@ sale-ok-requires : tie.Need-sale-ok-requires
 sale-ok-requires c κs = search needs
 
 returns : tie.Need-returns
-unfolding recordOf readBy recordFrom saleFrom newFrom holds packed slots part tab saleRules keptBy layoutC
+unfolding recordOf readBy recordFrom newFrom packed slots part tab
 returns c =
     let size = c .before in
     let price = size .before .before in
-    simp (c .sale-ok .ensures, size .number42 .ensures, price .number4 .ensures, price .before .before .trade-ok .ensures)
-    (sym (and-true _))
+    let head = price .before .before in
+    let s = head .before in
+    simp (c .sale-ok .ensures, size .number42 .ensures, price .number4 .ensures, head .trade-ok .ensures)
+    (c-rules (s .args .edition) (recordOf (s .args .b .now)))
 
 pub kept-c-spec : {M : Type 1} → statement M
 kept-c-spec =

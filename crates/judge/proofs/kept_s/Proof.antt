@@ -1,10 +1,9 @@
 -- `judge::kept_s` meets its contract.
 -- Assumes nothing.
 use Rattle.octets.specs.Run.{tab, part}
-use Rattle.layout.specs.Tables.{keptBy}
-use Rattle.records.specs.Held.{holds, readBy, recordFrom, saleFrom, newFrom}
-use Rattle.records.specs.Packed.{slots, packed, recordOf, saleAt}
-use Rattle.packing.specs.Layouts.{layoutS}
+use Rattle.records.specs.Held.{readBy, recordFrom}
+use Rattle.records.specs.Packed.{slots, packed, recordOf}
+use Rattle.judge.proofs.Asked.{s-rules}
 use borrow.Author.Needs.{needs}
 use Rattle.judge.proofs.kept_s.Statement.{statement}
 use Rattle.judge.proofs.kept_s.Tie as tie
@@ -25,10 +24,11 @@ event-ok-requires : tie.Need-event-ok-requires
 event-ok-requires c κs = search needs
 
 returns : tie.Need-returns
-unfolding recordOf readBy recordFrom saleFrom newFrom holds packed slots part tab keptBy layoutS
+unfolding recordOf readBy recordFrom packed slots part tab
 returns c =
     let time = c .before .before .before in
-    simp (c .event-ok .ensures, time .time-ok .ensures, time .before .number4 .ensures)
+    let a = time .before .before .before .args in
+    simp (c .event-ok .ensures, time .time-ok .ensures, time .before .number4 .ensures) (s-rules (a .edition) (recordOf (a .b .now)))
 
 pub kept-s-spec : {M : Type 1} → statement M
 kept-s-spec =

@@ -1,10 +1,9 @@
 -- `judge::lawful` meets its contract.
 -- Assumes nothing.
-use mathlib.Core.Path.{ap, sym, _∙_}
-use Rattle.kinds.specs.declared.Kind.{Kind}
+use mathlib.Core.Path.{refl, _∙_}
 use Rattle.records.specs.Packed.{recordOf}
-use Rattle.packing.specs.Layouts.{layoutOf}
 use Rattle.judge.specs.Judged.{lawfulIn}
+use Rattle.judge.proofs.Asked.{s-laid, t-laid, x-laid, c-laid, other-laid, laid}
 use borrow.Author.Needs.{needs}
 use Rattle.judge.proofs.lawful.Statement.{statement}
 use Rattle.judge.proofs.lawful.Tie as tie
@@ -36,39 +35,41 @@ lawful-c-requires c κs = search needs
 enum-told-5 : tie.Need-enum-told-5
 enum-told-5 c = search needs
 
-lawful-j-requires : tie.Need-lawful-j-requires
-lawful-j-requires c κs = search needs
+lawful-summary-requires : tie.Need-lawful-summary-requires
+lawful-summary-requires c κs = search needs
 
 enum-told-6 : tie.Need-enum-told-6
 enum-told-6 c = search needs
 
 returns : tie.Need-returns
 returns c =
-    let b = c .before .before .before .args .b .now in
-    c .lawful-s .ensures ∙ sym (ap (λ (k : Kind). lawfulIn (layoutOf k) (recordOf b)) (c .before .enum-told .given .1))
+    let a = c .before .before .before .args in
+    c .lawful-s .ensures ∙ laid lawfulIn (a .edition) (recordOf (a .b .now)) (s-laid (a .edition)) (c .before .enum-told .given .1)
 
 returns-2 : tie.Need-returns-2
 returns-2 c =
-    let b = c .before .before .before .args .b .now in
-    c .lawful-t .ensures ∙ sym (ap (λ (k : Kind). lawfulIn (layoutOf k) (recordOf b)) (c .before .enum-told2 .given .1))
+    let a = c .before .before .before .args in
+    c .lawful-t .ensures ∙ laid lawfulIn (a .edition) (recordOf (a .b .now)) (t-laid (a .edition)) (c .before .enum-told2 .given .1)
 
 returns-3 : tie.Need-returns-3
 returns-3 c =
-    let b = c .before .before .before .args .b .now in
-    c .lawful-t2 .ensures ∙ sym (ap (λ (k : Kind). lawfulIn (layoutOf k) (recordOf b)) (c .before .enum-told3 .given .1))
+    let a = c .before .before .before .args in
+    c .lawful-t2 .ensures ∙ laid lawfulIn (a .edition) (recordOf (a .b .now)) (x-laid (a .edition)) (c .before .enum-told3 .given .1)
 
 returns-4 : tie.Need-returns-4
 returns-4 c =
-    let b = c .before .before .before .args .b .now in
-    c .lawful-c .ensures ∙ sym (ap (λ (k : Kind). lawfulIn (layoutOf k) (recordOf b)) (c .before .enum-told4 .given .1))
+    let a = c .before .before .before .args in
+    c .lawful-c .ensures ∙ laid lawfulIn (a .edition) (recordOf (a .b .now)) (c-laid (a .edition)) (c .before .enum-told4 .given .1)
 
 returns-5 : tie.Need-returns-5
 returns-5 c =
-    let b = c .before .before .before .args .b .now in
-    c .lawful-j .ensures ∙ sym (ap (λ (k : Kind). lawfulIn (layoutOf k) (recordOf b)) (c .before .enum-told5 .given .1))
+    let a = c .before .before .before .args in
+    c .lawful-summary .ensures ∙ laid lawfulIn (a .edition) (recordOf (a .b .now)) refl (c .before .enum-told5 .given .1)
 
 returns-6 : tie.Need-returns-6
-returns-6 c = sym (ap (λ (k : Kind). lawfulIn (layoutOf k) (recordOf (c .before .before .args .b .now))) (c .enum-told6 .given .1))
+returns-6 c =
+    let a = c .before .before .args in
+    laid lawfulIn (a .edition) (recordOf (a .b .now)) (other-laid (a .edition)) (c .enum-told6 .given .1)
 
 pub lawful-spec : {M : Type 1} → statement M
 lawful-spec =
@@ -83,7 +84,7 @@ lawful-spec =
     enum-told-4
     lawful-c-requires
     enum-told-5
-    lawful-j-requires
+    lawful-summary-requires
     enum-told-6
     returns
     returns-2

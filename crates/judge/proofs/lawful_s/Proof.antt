@@ -12,7 +12,9 @@ none-requires : tie.Need-none-requires
 none-requires c κs = search needs
 
 returns : tie.Need-returns
-returns c = simp (c .none .ensures, c .before .kept-s .ensures) (s-said (c .before .before .args .b .now))
+returns c =
+    let s = c .before .before in
+    simp (c .none .ensures, c .before .kept-s .ensures) (s-said (s .args .b .now) (s .args .edition))
 
 pub lawful-s-spec : {M : Type 1} → statement M
 lawful-s-spec = tie.close (tie.spec kept-s-requires none-requires returns)

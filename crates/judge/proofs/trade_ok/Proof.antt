@@ -1,9 +1,9 @@
 -- `judge::trade_ok` meets its contract.
 -- Assumes nothing.
 use Rattle.octets.specs.Run.{tab, part}
-use Rattle.records.specs.Held.{holds, readBy, recordFrom, saleFrom, newFrom}
+use Rattle.records.specs.Held.{readBy, recordFrom, saleFrom}
 use Rattle.records.specs.Packed.{slots, packed, recordOf}
-use Rattle.judge.specs.Judged.{saleRules}
+use Rattle.judge.specs.Judged.{saleRules, tradeRules}
 use borrow.Author.Needs.{needs}
 use Rattle.judge.proofs.trade_ok.Statement.{statement}
 use Rattle.judge.proofs.trade_ok.Tie as tie
@@ -48,7 +48,7 @@ sale-ok-requires : tie.Need-sale-ok-requires
 sale-ok-requires c κs = search needs
 
 returns : tie.Need-returns
-unfolding recordOf readBy recordFrom saleFrom newFrom holds packed slots part tab saleRules
+unfolding recordOf readBy recordFrom saleFrom packed slots part tab saleRules tradeRules
 returns c =
     let size = c .before in
     let price = size .before .before in

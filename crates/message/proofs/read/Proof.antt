@@ -22,10 +22,11 @@ record-requires c κs = search needs
 
 returns : tie.Need-returns
 returns c =
-    let m = c .before .before .before .before .before .args .message .now in
+    let a = c .before .before .before .before .before .args in
+    let m = a .message .now in
     let q = c .before .before .read-packed .ensures in
-    let g = read-fits m (entered (c .before .before .before .before)) in
-    let f = c .«record» .ensures ∙ ap recordOf (q .1) ∙ record-again (readOf m .found) g in
+    let g = read-fits (a .edition) m (entered (c .before .before .before .before)) in
+    let f = c .«record» .ensures ∙ ap recordOf (q .1) ∙ record-again (readOf (a .edition) m .found) g in
     rw (q .0, f)
 
 pub read-spec : {M : Type 1} → statement M

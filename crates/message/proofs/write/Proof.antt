@@ -40,7 +40,7 @@ returns c =
     let out = s .args .out .now in
     let e = ap recordOf (c .before .before .before .before .before .put-record .ensures) ∙ record-again r (entered s) in
     let w = c .before .before .write-packed .ensures in
-    (w .0 ∙ ap (λ (q : Record). writeAnswer q out) e, w .1 .0 ∙ ap (λ (q : Record). writeOut q out) e)
+    (w .0 ∙ ap (λ (q : Record). writeAnswer (s .args .edition) q out) e, w .1 .0 ∙ ap (λ (q : Record). writeOut (s .args .edition) q out) e)
 
 pub write-spec : {M : Type 1} → statement M
 write-spec = tie.close (tie.spec put-record-requires write-packed-requires same-length returns)

@@ -48,8 +48,8 @@ returns c =
     let r = recordOf (a .b .now) in
     let held = sym (test .before .lawful .ensures) ∙ test .if1 .taken in
     let long = room .before .length-of .ensures in
-    let w =
-    written-done (kind .kind-of .result) r (a .out .now) (typed kind) (packed-long (a .b .now)) held (rw (← long) (room .if2 .taken)) in
+    let k = kind .kind-of .result in
+    let w = written-done (a .edition) k r (a .out .now) (typed kind) (packed-long (a .b .now)) held (rw (← long) (room .if2 .taken)) in
     (w .0, (c .before .before .store .ensures ∙ w .1, fits kind))
 
 returns-2 : tie.Need-returns-2
@@ -60,7 +60,8 @@ returns-2 c =
     let r = recordOf (a .b .now) in
     let held = sym (test .before .lawful .ensures) ∙ test .if1 .taken in
     let long = c .before .length-of .ensures in
-    let w = written-short (kind .kind-of .result) r (a .out .now) (typed kind) held (rw (← long) (omega (arith, c .if2 .left))) in
+    let k = kind .kind-of .result in
+    let w = written-short (a .edition) k r (a .out .now) (typed kind) held (rw (← long) (omega (arith, c .if2 .left))) in
     (w .0, (w .1, fits kind))
 
 returns-3 : tie.Need-returns-3
@@ -68,7 +69,8 @@ returns-3 c =
     let kind = c .before .before in
     let a = start kind .args in
     let r = recordOf (a .b .now) in
-    let w = written-broken (kind .kind-of .result) r (a .out .now) (typed kind) (sym (c .before .lawful .ensures) ∙ c .if1 .left) in
+    let k = kind .kind-of .result in
+    let w = written-broken (a .edition) k r (a .out .now) (typed kind) (sym (c .before .lawful .ensures) ∙ c .if1 .left) in
     (w .0, (w .1, fits kind))
 
 pub write-packed-spec : {M : Type 1} → statement M

@@ -3,10 +3,9 @@
 use mathlib.Core.Path.{ap, sym, _∙_}
 use lib.Seq.{sets}
 use Rattle.kinds.specs.declared.Kind.{Kind}
-use Rattle.records.specs.Held.{writeBy}
+use Rattle.records.specs.Held.{writeBy, bytesIn}
 use Rattle.records.specs.Packed.{recordOf}
 use Rattle.packing.specs.Layouts.{layoutT, layoutOf}
-use Rattle.packing.specs.Packing.{bytesIn}
 use borrow.Author.Needs.{needs}
 use Rattle.packing.proofs.store.Statement.{statement}
 use Rattle.packing.proofs.store.Tie as tie

@@ -2,11 +2,10 @@
 -- Assumes nothing.
 use mathlib.Core.Path.{ap, sym, _∙_}
 use Rattle.kinds.specs.declared.Kind.{Kind}
-use Rattle.records.specs.Held.{readBy}
+use Rattle.records.specs.Held.{readBy, filledIn}
 use Rattle.records.specs.Packed.{recordBytes}
 use Rattle.records.proofs.Stores.{no-bytes}
 use Rattle.packing.specs.Layouts.{layoutT, layoutOf}
-use Rattle.packing.specs.Packing.{filledIn}
 use borrow.Author.Needs.{needs}
 use Rattle.packing.proofs.unpack.Statement.{statement}
 use Rattle.packing.proofs.unpack.Tie as tie
