@@ -1,5 +1,6 @@
 // A message read, a record written, and both told.
 use crate::told;
+use editions::Edition;
 use records::Record;
 
 // What a lent space holds before a record is written.
@@ -15,7 +16,7 @@ pub fn again(message: &[u8], space: &mut [u8]) {
 pub fn read(message: &[u8]) -> Record {
     telling::words(b"given ");
     telling::hex(message);
-    let said = message::read(message);
+    let said = message::read(Edition::NlsPlus, message);
     let a = said.answer;
     telling::words(b"\nread ");
     telling::number(answers::number(a) as u64);
@@ -26,7 +27,7 @@ pub fn read(message: &[u8]) -> Record {
 
 // Writes a record, and tells the answer and the space's bytes.
 pub fn write(r: Record, space: &mut [u8]) {
-    let a = message::write(r, space);
+    let a = message::write(Edition::NlsPlus, r, space);
     telling::words(b"write ");
     telling::number(answers::number(a) as u64);
     telling::words(b"\nspace ");

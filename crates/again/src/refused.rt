@@ -1,6 +1,7 @@
 // What is refused, tried on a trade report: the record is of zeros, and the lent space stays.
 use crate::back;
 use crate::sound;
+use editions::Edition;
 use records::Record;
 
 // Messages that the reader refuses.
@@ -33,7 +34,7 @@ pub fn writes() {
 fn report() -> Record {
     let mut message = [0u8; 45];
     sound::trade(&mut message, b'T');
-    let said = message::read(&message);
+    let said = message::read(Edition::NlsPlus, &message);
     said.found
 }
 

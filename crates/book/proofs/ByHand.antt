@@ -11,6 +11,8 @@ use Rattle.answers.specs.Cases.{done, says, spends}
 use Rattle.octets.specs.Run as Run
 use Rattle.numbers.specs.Number as Number
 use Rattle.bounds.specs.Up as Up
+use Rattle.editions.specs.declared.Edition.{Edition}
+use Rattle.editions.specs.declared.Edition.the-variants.{NlsPlus, Pls}
 use Rattle.kinds.specs.Kinds as Kinds
 use Rattle.cells.specs.Search as Search
 use Rattle.records.specs.declared.Sale.{Sale}
@@ -25,7 +27,7 @@ use Rattle.rows.specs.declared.Reported.the-variants.{NotSet, Volume}
 use Rattle.rows.specs.Rows as Rows
 use Rattle.counters.specs.declared.Counters.{Counters}
 use Rattle.counters.specs.Counting as Counting
-use Rattle.counters.specs.Counting.{freshCounters}
+use Rattle.counters.specs.Counting.{startedFor, freshCounters}
 use Rattle.take.specs.Taking as Taking
 use Rattle.book.specs.State.{State, lent, rowsIn, linesIn}
 use Rattle.book.specs.Calls.{withListing, after}
@@ -77,8 +79,8 @@ cancel = message 88 30 0 81 abcd 81 sale 9
 
 -- ---- what is left, in rooms for one row and one line, all 35 at first
 
-abbrev opened : State
-opened = withListing (lent freshCounters (replicate 30 35) (replicate 40 35)) listing
+abbrev opened : Edition → State
+opened e = withListing (lent (freshCounters e) (replicate 30 35) (replicate 40 35)) listing
 
 pub record Left : Type 0 where
   pub counters : Counters
@@ -89,12 +91,13 @@ unfoldable pub left : State → Left
 unfolding Run.tab Run.part Number.be Number.digits Up.up Kinds.kindOf Search.first
     Lines.lineFrom Lines.lineBytes Lines.usedLines Lines.lineIn Lines.withLine Lines.withDead
     Rows.listingFrom Rows.summaryAt Rows.reportedAt Rows.rowFrom Rows.newRow Rows.reportBytes Rows.usedRows Rows.rowIn Rows.inRow
-    Taking.linesBy Taking.rowsBy Counting.takenBy
+    Taking.linesBy Taking.reportedBy Taking.rowsBy Counting.takenBy
 left s = record { counters = s .counters; rows = rowsIn s; lines = linesIn s }
 
--- wanted number, phase, rows, lines, taken
-abbrev counted : ℕ → ℕ → ℕ → ℕ → ℕ → Counters
-counted wanted phase rows lines taken = record { wanted = wanted; phase = phase; rows = rows; lines = lines; taken = taken }
+-- edition, wanted number, phase, rows, lines, taken
+abbrev counted : Edition → ℕ → ℕ → ℕ → ℕ → ℕ → Counters
+counted e wanted phase rows lines taken =
+    record { start = startedFor e; wanted = wanted; phase = phase; rows = rows; lines = lines; taken = taken }
 
 abbrev row : Reported → Row
 row reported = record { listing = listing; summary = NoSummary; reported = reported }
@@ -113,26 +116,34 @@ line live =
       live = live;
     }
 
-abbrev begun : State
-begun = after opened event done
+abbrev begun : Edition → State
+begun e = after (opened e) event done
 
-abbrev traded : State
-traded = after begun trade done
+abbrev traded : Edition → State
+traded e = after (begun e) trade done
 
-abbrev before : Left
-before = record { counters = counted 3 1 1 1 2; rows = row (Volume 7) ∷ []; lines = line true ∷ [] }
+abbrev before : Edition → Reported → Left
+before e v = record { counters = counted e 3 1 1 1 2; rows = row v ∷ []; lines = line true ∷ [] }
 
 -- a listing; an event, a trade and its cancel taken
-pub moves : (left opened ≡ record { counters = counted 1 0 1 0 0; rows = row NotSet ∷ []; lines = [] })
-    × (left begun ≡ record { counters = counted 2 1 1 0 1; rows = row NotSet ∷ []; lines = [] })
-    × (left traded ≡ before)
-    × (left (after traded cancel done) ≡ record { counters = counted 4 1 1 1 3; rows = row (Volume 9) ∷ []; lines = line false ∷ [] })
+pub moves : (left (opened NlsPlus) ≡ record { counters = counted NlsPlus 1 0 1 0 0; rows = row NotSet ∷ []; lines = [] })
+    × (left (begun NlsPlus) ≡ record { counters = counted NlsPlus 2 1 1 0 1; rows = row NotSet ∷ []; lines = [] })
+    × (left (traded NlsPlus) ≡ before NlsPlus (Volume 7))
+    × (left (after (traded NlsPlus) cancel done)
+    ≡ record { counters = counted NlsPlus 4 1 1 1 3; rows = row (Volume 9) ∷ []; lines = line false ∷ [] })
 unfolding left
 moves = (refl, refl, refl, refl)
 
+-- the same in a PLS book, whose messages report no volume: the row stays as it was listed
+pub unreported : (left (traded Pls) ≡ before Pls NotSet)
+    × (left (after (traded Pls) cancel done)
+    ≡ record { counters = counted Pls 4 1 1 1 3; rows = row NotSet ∷ []; lines = line false ∷ [] })
+unfolding left
+unreported = (refl, refl)
+
 -- the cancel refused: by 10, which uses its number up, and by 3, which does not
-pub stays : (left (after traded cancel (spends 10 true))
-    ≡ record { counters = counted 4 1 1 1 2; rows = before .rows; lines = before .lines })
-    × (left (after traded cancel (says 3 true)) ≡ before)
+pub stays : (left (after (traded NlsPlus) cancel (spends 10 true))
+    ≡ record { counters = counted NlsPlus 4 1 1 1 2; rows = row (Volume 7) ∷ []; lines = line true ∷ [] })
+    × (left (after (traded NlsPlus) cancel (says 3 true)) ≡ before NlsPlus (Volume 7))
 unfolding left
 stays = (refl, refl)

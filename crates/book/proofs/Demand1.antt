@@ -14,7 +14,6 @@ use Rattle.answers.specs.Answers.{numberOf, answerOf}
 use Rattle.answers.specs.Cases.{Case, given, inBook}
 use Rattle.answers.proofs.Cases.{Rising, numbersOf, given-among, given-uses}
 use Rattle.records.specs.declared.Record.{Record}
-use Rattle.message.specs.Reader.{readOf}
 use Rattle.rows.specs.declared.Listing.{Listing}
 use Rattle.rows.specs.Rows.{rowLimit}
 use Rattle.bounds.proofs.Laws.{up-is}
@@ -23,9 +22,9 @@ use Rattle.sound.proofs.Sound.{sound-gives, sound-exactly}
 use Rattle.table.specs.Table.{numberTable, contentTable}
 use Rattle.table.proofs.Tables.{Wanted, number-content, number-refused, number-taken}
 use Rattle.show.specs.Showing.{nothingShown}
-use Rattle.book.specs.State.{State, withCounters, Arrival, wantedIn, sheetOf, basisOf, soundIn, UnsoundIn}
-use Rattle.book.specs.Calls.{listTable, listCases, listAnswer, listed, numberCases, messageCases, messageGiven, spent, after}
-use Rattle.book.specs.Calls.{delivered, rowTable, rowCases, rowAnswer, shown}
+use Rattle.book.specs.State.{State, withCounters, Arrival, wantedIn, sheetOf, soundIn, UnsoundIn}
+use Rattle.book.specs.Calls.{listTable, listCases, listAnswer, listed, numberCases, readingIn, contentCases, messageCases}
+use Rattle.book.specs.Calls.{messageGiven, spent, after, delivered, rowTable, rowCases, rowAnswer, shown}
 
 -- ---- the numbers of a listing's cases rise, as those of a message's do (`message-rising`)
 
@@ -104,10 +103,10 @@ module _ (s : State) where
 
   module _ (a : Arrival) where
     abbrev cases : List Case
-    cases = contentTable (basisOf s) (readOf (a .message))
+    cases = contentCases s a
 
     abbrev record-in : Record
-    record-in = readOf (a .message) .found
+    record-in = readingIn s (a .message) .found
 
     pub answer-taken : messageGiven s a .number ≡ 0 → Wanted (soundIn s) (wantedIn s) (a .number)
     unfolding messageGiven
@@ -164,7 +163,7 @@ module _ (s : State) where
   refused-keeps =
       record {
         list = λ l z. rw (ne-eqb (listAnswer s l) 0 z);
-        deliver = λ a z. kept-rooms (readOf (a .message) .found) (messageGiven s a) z;
+        deliver = λ a z. kept-rooms (readingIn s (a .message) .found) (messageGiven s a) z;
         used = λ a h w f z. used-is a (wanted (a .number) h w f) z;
         byOne =
             λ h.
@@ -214,6 +213,6 @@ module _ (s : State) where
   unsound-first =
       record {
         list = λ l. then-unsound (listTable (wantedIn s) (sheetOf s) (rowLimit (length (s .rows))) l) refl;
-        deliver = λ a. then-unsound (numberTable (wantedIn s) (a .number) ++ contentTable (basisOf s) (readOf (a .message))) refl;
+        deliver = λ a. then-unsound (numberTable (wantedIn s) (a .number) ++ contentCases s a) refl;
         row = λ symbol. rw (row-told s symbol) (then-unsound (rowTable (sheetOf s) symbol) refl);
       }

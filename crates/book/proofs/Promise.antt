@@ -5,6 +5,7 @@
 use mathlib.Core.Path.{_≡_, refl, ap, sym, _∙_}
 use mathlib.Core.List.{List, []}
 use Prim.Native.Nat.{ℕ, zero, suc}
+use Rattle.editions.specs.declared.Edition.{Edition}
 use Rattle.counters.specs.declared.Counters.{Counters}
 use Rattle.book.specs.declared.Said.{Said}
 use Rattle.book.specs.declared.Shown.{Shown}
@@ -29,8 +30,9 @@ use Rattle.book.proofs.row as row
 use Rattle.book.proofs.row.Reads as row-reads
 use Rattle.book.proofs.row.Kinds as row-kinds
 
-pub fresh-one : (r r′ : Counters) → fresh-reads.Learnt tt tt r tt → fresh-reads.Learnt tt tt r′ tt → r ≡ r′
-fresh-one r r′ h h′ = h ∙ sym h′
+pub fresh-one : (e e₁ e₂ : Edition) (r r′ : Counters)
+    → fresh-reads.Learnt tt (e, tt) r (e₁, tt) → fresh-reads.Learnt tt (e, tt) r′ (e₂, tt) → r ≡ r′
+fresh-one e e₁ e₂ r r′ h h′ = h ∙ sym h′
 
 -- two calls that come to one outcome told the same
 said-same : (r r′ : Said) (rows lines rows′ lines′ : List ℕ) (o : Outcome) → leaving r rows lines ≡ o → leaving r′ rows′ lines′ ≡ o → r ≡ r′

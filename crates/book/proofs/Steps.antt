@@ -14,9 +14,9 @@ use Rattle.answers.specs.Cases.{Case, given}
 use Rattle.answers.proofs.Cases.{picked, picked-is}
 use Rattle.answers.specs.declared.Answer.{Answer}
 use Rattle.message.specs.declared.Reading.{Reading}
-use Rattle.message.specs.Reader.{readOf}
 use Rattle.records.specs.declared.Record.{Record}
 use Rattle.cells.specs.declared.Found.the-variants.{Nothing, At}
+use Rattle.editions.specs.declared.Edition.{Edition}
 use Rattle.kinds.specs.declared.Kind.{Kind}
 use Rattle.kinds.specs.Kinds.{isEvent, namesOld}
 use Rattle.kinds.proofs.Laws.{event-summary, event-sets}
@@ -33,15 +33,15 @@ use Rattle.table.specs.declared.Verdict.{Verdict}
 use Rattle.table.specs.Table.{isFound, isListed}
 use Rattle.table.specs.Working.{judgedBy}
 use Rattle.table.proofs.Tables.{rows-full, judged-is, judged-row, judged-line, read-plain, Wanted, number-wanted}
-use Rattle.take.specs.Taking.{linesBy, rowsBy, indexOf}
+use Rattle.take.specs.Taking.{linesBy, reportedBy, rowsBy, indexOf}
 use Rattle.show.specs.declared.RowShown.{RowShown}
 use Rattle.show.specs.Showing.{shownOf, nothingShown}
 use Rattle.book.specs.declared.Located.{Located}
 use Rattle.book.specs.declared.Shown.{Shown}
-use Rattle.book.specs.State.{State, withCounters, withRows, withLines, Outcome, Arrival, arrives, wantedIn, sheetOf, linesIn, basisOf}
-use Rattle.book.specs.State.{soundIn}
-use Rattle.book.specs.Calls.{closeTop, listTable, listCases, listAnswer, listed, numberCases, messageGiven, rowNamed}
-use Rattle.book.specs.Calls.{lineNamed, taking, delivered, rowCases, rowAnswer, rowFound, located, shown}
+use Rattle.book.specs.State.{State, withCounters, withRows, withLines, Outcome, Arrival, arrives, editionOf, wantedIn, sheetOf}
+use Rattle.book.specs.State.{linesIn, basisOf, soundIn}
+use Rattle.book.specs.Calls.{closeTop, listTable, listCases, listAnswer, listed, numberCases, readingIn, messageGiven}
+use Rattle.book.specs.Calls.{rowNamed, lineNamed, taking, delivered, rowCases, rowAnswer, rowFound, located, shown}
 use Rattle.book.proofs.Demand1.{list-told, message-told, number-told, row-told, answer-content, answer-number, refused-keeps}
 
 -- ---- a record is its parts
@@ -130,9 +130,9 @@ module _ (s : State) (l : Listing) where
 
 -- ---- where no row and no line is asked for, none is acted on
 
-event-idle : (k : Kind) (m : List ℕ) (r : Record) (i j : ℕ) → isEvent k ≡ true → rowsBy k m r i ≡ rowsBy k m r j
-unfolding rowsBy
-event-idle k m r i j e = rw (event-summary k e, event-sets k e)
+event-idle : (ed : Edition) (k : Kind) (m : List ℕ) (r : Record) (i j : ℕ) → isEvent k ≡ true → rowsBy ed k m r i ≡ rowsBy ed k m r j
+unfolding rowsBy reportedBy
+event-idle ed k m r i j e = rw (event-summary k e, event-sets k e)
 
 unnamed-idle : (k : Kind) (m : List ℕ) (used n : ℕ) (r : Record) (i j : ℕ) → namesOld k ≡ false
     → linesBy k m used n r i ≡ linesBy k m used n r j
@@ -141,16 +141,16 @@ unnamed-idle k m used n r i j e = rw e
 
 -- ---- a message judged, under the wanted number
 
-module _ (s : State) (m : List ℕ) (w : Wanted (soundIn s) (wantedIn s) (wantedIn s)) (q : Reading) (f : q ≡ readOf m)
+module _ (s : State) (m : List ℕ) (w : Wanted (soundIn s) (wantedIn s) (wantedIn s)) (q : Reading) (f : q ≡ readingIn s m)
     (kind : Kind) (h : kind ≡ kindIn (q .found)) (v : Verdict) (g : v ≡ judgedBy (basisOf s) kind q) where
   abbrev here : Arrival
   here = arrives (wantedIn s) m
 
   abbrev r : Record
-  r = readOf m .found
+  r = readingIn s m .found
 
   abbrev it : Verdict
-  it = judgedBy (basisOf s) (kindIn r) (readOf m)
+  it = judgedBy (basisOf s) (kindIn r) (readingIn s m)
 
   kind-is : kind ≡ kindIn r
   kind-is = h ∙ ap (λ (x : Reading). kindIn (x .found)) f
@@ -161,7 +161,7 @@ module _ (s : State) (m : List ℕ) (w : Wanted (soundIn s) (wantedIn s) (wanted
   verdict-is : v .answer ≡ answerOf (messageGiven s here .number)
   verdict-is =
       ap (λ (x : Verdict). x .answer) judged
-      ∙ judged-is (basisOf s) (readOf m) (read-plain m)
+      ∙ judged-is (basisOf s) (readingIn s m) (read-plain (editionOf s) m)
       ∙ ap (λ (x : Case). answerOf (x .number)) (sym (answer-content s here w))
 
   verdict-number : numberOf (v .answer) ≡ messageGiven s here .number
@@ -183,22 +183,22 @@ module _ (s : State) (m : List ℕ) (w : Wanted (soundIn s) (wantedIn s) (wanted
     z-it = ap (λ (x : Verdict). numberOf (x .answer)) (sym judged) ∙ z
 
     -- the row acted on is the first of the symbol
-    row-is : rowsBy (kindIn r) (s .rows) r (it .row) ≡ taking s r .rows
+    row-is : rowsBy (editionOf s) (kindIn r) (s .rows) r (it .row) ≡ taking s r .rows
     row-is = go (isEvent (kindIn r)) refl
       where
         at : isEvent (kindIn r) ≡ false → it .row ≡ rowNamed s r
-        at e = sym (ap indexOf (judged-row (basisOf s) (readOf m) z-it e))
+        at e = sym (ap indexOf (judged-row (basisOf s) (readingIn s m) z-it e))
 
-        go : (t : Bool) → isEvent (kindIn r) ≡ t → rowsBy (kindIn r) (s .rows) r (it .row) ≡ taking s r .rows
-        go true t = event-idle (kindIn r) (s .rows) r (it .row) (rowNamed s r) t
-        go false t = ap (rowsBy (kindIn r) (s .rows) r) (at t)
+        go : (t : Bool) → isEvent (kindIn r) ≡ t → rowsBy (editionOf s) (kindIn r) (s .rows) r (it .row) ≡ taking s r .rows
+        go true t = event-idle (editionOf s) (kindIn r) (s .rows) r (it .row) (rowNamed s r) t
+        go false t = ap (rowsBy (editionOf s) (kindIn r) (s .rows) r) (at t)
 
     -- the line acted on is the first that bears the named key; where none is named, none is asked for
     line-is : linesBy (kindIn r) (s .lines) (s .counters .lines) (wantedIn s) r (it .line) ≡ taking s r .lines
     line-is = go (namesOld (kindIn r)) refl
       where
         at : namesOld (kindIn r) ≡ true → it .line ≡ lineNamed s r
-        at e = sym (ap indexOf (judged-line (basisOf s) (readOf m) z-it e))
+        at e = sym (ap indexOf (judged-line (basisOf s) (readingIn s m) z-it e))
 
         go : (t : Bool) → namesOld (kindIn r) ≡ t
             → linesBy (kindIn r) (s .lines) (s .counters .lines) (wantedIn s) r (it .line) ≡ taking s r .lines
@@ -207,7 +207,7 @@ module _ (s : State) (m : List ℕ) (w : Wanted (soundIn s) (wantedIn s) (wanted
 
     pub taken-here : (c : Counters) (rows lines : List ℕ)
         → c ≡ takenBy kind (q .found .event) (s .counters)
-        → rows ≡ rowsBy kind (s .rows) (q .found) (v .row)
+        → rows ≡ rowsBy (editionOf s) kind (s .rows) (q .found) (v .row)
         → lines ≡ linesBy kind (s .lines) (s .counters .lines) (wantedIn s) (q .found) (v .line)
         → record { answer = 0; state = withCounters c (withRows rows (withLines lines s)) } ≡ delivered s here
     unfolding delivered
@@ -217,9 +217,9 @@ module _ (s : State) (m : List ℕ) (w : Wanted (soundIn s) (wantedIn s) (wanted
         ∙ ap (λ (x : Reading). takenBy (kindIn r) (x .found .event) (s .counters)) f in
         let fr =
         er
-        ∙ ap (λ (x : Kind). rowsBy x (s .rows) (q .found) (v .row)) kind-is
-        ∙ ap (λ (x : Reading). rowsBy (kindIn r) (s .rows) (x .found) (v .row)) f
-        ∙ ap (λ (x : Verdict). rowsBy (kindIn r) (s .rows) r (x .row)) judged
+        ∙ ap (λ (x : Kind). rowsBy (editionOf s) x (s .rows) (q .found) (v .row)) kind-is
+        ∙ ap (λ (x : Reading). rowsBy (editionOf s) (kindIn r) (s .rows) (x .found) (v .row)) f
+        ∙ ap (λ (x : Verdict). rowsBy (editionOf s) (kindIn r) (s .rows) r (x .row)) judged
         ∙ row-is in
         let fl =
         el

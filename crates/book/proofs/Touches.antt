@@ -15,11 +15,12 @@ use Rattle.numbers.proofs.Laws.{be-below}
 use Rattle.answers.specs.Cases.{says, given, inBook}
 use Rattle.records.specs.Fits.{RecordFits}
 use Rattle.records.specs.declared.Record.{Record}
-use Rattle.message.specs.Reader.{readOf}
 use Rattle.message.proofs.Fitting.{read-fits}
 use Rattle.cells.specs.declared.Found.{Found}
 use Rattle.cells.specs.declared.Found.the-variants.{Nothing, At}
 use Rattle.cells.proofs.Slabs.{found-below}
+use Rattle.editions.specs.declared.Edition.{Edition}
+use Rattle.editions.specs.Editions.{reports}
 use Rattle.kinds.specs.declared.Kind.{Kind}
 use Rattle.kinds.specs.Kinds.{isEvent, isSummary, namesOld, makesNew, setsVolume}
 use Rattle.kinds.proofs.Laws.{sets-event, summary-sets}
@@ -39,12 +40,12 @@ use Rattle.walk.specs.Meaning.{Are}
 use Rattle.walk.proofs.Meaning.{figures-are, volume-fits}
 use Rattle.keys.specs.Keys.{kindIn}
 use Rattle.table.specs.Table.{isFound, isListed}
-use Rattle.take.specs.Taking.{madeLine, correctedLine, corrected, linesBy, reported, summed, rowsBy}
+use Rattle.take.specs.Taking.{madeLine, correctedLine, corrected, linesBy, reported, summed, reportedBy, rowsBy}
 use Rattle.show.specs.Showing.{shownOf, nothingShown}
-use Rattle.book.specs.State.{State, Arrival, wantedIn, rowsIn, sheetOf, linesIn, soundIn}
+use Rattle.book.specs.State.{State, Arrival, editionOf, wantedIn, rowsIn, sheetOf, linesIn, soundIn}
 use Rattle.book.proofs.Demand1.{answer-taken}
-use Rattle.book.specs.Calls.{listAnswer, withListing, listed, messageGiven, rowNamed, lineNamed, taking, spent, delivered, rowAnswer}
-use Rattle.book.specs.Calls.{rowFound, shown}
+use Rattle.book.specs.Calls.{listAnswer, withListing, listed, readingIn, messageGiven, rowNamed, lineNamed, taking, spent}
+use Rattle.book.specs.Calls.{delivered, rowAnswer, rowFound, shown}
 
 -- j is before a start, or not before an end
 abbrev pub Outside : ℕ → ℕ → ℕ → Type 0
@@ -116,18 +117,19 @@ module _ {A : Type 0} (f : List ℕ → A) where
       go false o true t = made t
       go false o false t = refl
 
-  by-rows : (kind : Kind) (m : List ℕ) (r : Record) (i : ℕ)
+  by-rows : (e : Edition) (kind : Kind) (m : List ℕ) (r : Record) (i : ℕ)
       → (isSummary kind ≡ true → f (withSummary m i (r .high) (r .low)) ≡ f m)
       → (isEvent kind ≡ false → (w : List ℕ) → f (reported w r i) ≡ f w)
-      → f (rowsBy kind m r i) ≡ f m
-  unfolding rowsBy
-  by-rows kind m r i summary report = go (isSummary kind) refl (setsVolume kind) refl
+      → f (rowsBy e kind m r i) ≡ f m
+  unfolding rowsBy reportedBy
+  by-rows e kind m r i summary report = go (reports e) (isSummary kind) refl (setsVolume kind) refl
     where
-      go : (j : Bool) → isSummary kind ≡ j → (t : Bool) → setsVolume kind ≡ t
-          → f (cond j (summed m r i) (cond t (reported m r i) m)) ≡ f m
-      go true j t v = report (sets-event kind (summary-sets kind j)) (withSummary m i (r .high) (r .low)) ∙ summary j
-      go false j true t = report (sets-event kind t) m
-      go false j false t = refl
+      go : (b j : Bool) → isSummary kind ≡ j → (t : Bool) → setsVolume kind ≡ t
+          → f (cond b (cond j (summed m r i) (cond t (reported m r i) m)) m) ≡ f m
+      go false k j t v = refl
+      go true true j t v = report (sets-event kind (summary-sets kind j)) (withSummary m i (r .high) (r .low)) ∙ summary j
+      go true false j true t = report (sets-event kind t) m
+      go true false j false t = refl
 
 abbrev byte : ℕ → List ℕ → ℕ
 byte j m = getD m j 0
@@ -151,34 +153,34 @@ lines-by-length kind m used n r k =
     (λ e. line-length (withDead m k) used (correctedLine (lineIn m k) r))
 
 -- a message that is no event may change its row's reported volume, a J also what the row keeps of a J
-pub rows-by-keep : (kind : Kind) (m : List ℕ) (r : Record) (i j : ℕ)
+pub rows-by-keep : (e : Edition) (kind : Kind) (m : List ℕ) (r : Record) (i j : ℕ)
     → (isSummary kind ≡ true → Outside (i * rowCell + atSummary) (i * rowCell + atReported) j)
     → (isEvent kind ≡ false → Outside (i * rowCell + atReported) (i * rowCell + rowCell) j)
-    → getD (rowsBy kind m r i) j 0 ≡ getD m j 0
-rows-by-keep kind m r i j p o =
+    → getD (rowsBy e kind m r i) j 0 ≡ getD m j 0
+rows-by-keep e kind m r i j p o =
     let at = i * rowCell in
     let s : length (summaryBytes (r .high) (r .low)) ≡ 9 = summary-length (r .high) (r .low) in
     let v : length (reportBytes (r .consolidated)) ≡ 9 = report-length (r .consolidated) in
-    by-rows (byte j) kind m r i
-    (λ e. row-outside m i atSummary (summaryBytes (r .high) (r .low)) (at + atSummary) (at + atReported) j (omega arith)
-    (omega arith) (omega arith) (p e))
-    (λ e w. row-outside w i atReported (reportBytes (r .consolidated)) (at + atReported) (at + rowCell) j (omega arith)
-    (omega arith) (omega arith) (o e))
+    by-rows (byte j) e kind m r i
+    (λ t. row-outside m i atSummary (summaryBytes (r .high) (r .low)) (at + atSummary) (at + atReported) j (omega arith)
+    (omega arith) (omega arith) (p t))
+    (λ t w. row-outside w i atReported (reportBytes (r .consolidated)) (at + atReported) (at + rowCell) j (omega arith)
+    (omega arith) (omega arith) (o t))
 
-pub rows-by-length : (kind : Kind) (m : List ℕ) (r : Record) (i : ℕ) → length (rowsBy kind m r i) ≡ length m
-rows-by-length kind m r i =
-    by-rows length kind m r i
-    (λ e. row-length m i atSummary (summaryBytes (r .high) (r .low)))
-    (λ e w. row-length w i atReported (reportBytes (r .consolidated)))
+pub rows-by-length : (e : Edition) (kind : Kind) (m : List ℕ) (r : Record) (i : ℕ) → length (rowsBy e kind m r i) ≡ length m
+rows-by-length e kind m r i =
+    by-rows length e kind m r i
+    (λ t. row-length m i atSummary (summaryBytes (r .high) (r .low)))
+    (λ t w. row-length w i atReported (reportBytes (r .consolidated)))
 
 -- ---- of the calls
 
--- the record that an arrival is read as, and its type
-abbrev pub arrived : Arrival → Record
-arrived a = readOf (a .message) .found
+-- the record that a book reads an arrival as, and its type
+abbrev pub arrived : State → Arrival → Record
+arrived s a = readingIn s (a .message) .found
 
-abbrev pub kindOfArrived : Arrival → Kind
-kindOfArrived a = kindIn (arrived a)
+abbrev pub kindOfArrived : State → Arrival → Kind
+kindOfArrived s a = kindIn (arrived s a)
 
 module _ (s : State) where
   -- every byte that a call keeps, and that no room changes its size
@@ -190,16 +192,16 @@ module _ (s : State) where
     -- a message, rows: all but the reported volume of its row and, of a J, what the row keeps of a J; an event touches none
     pub inRows : (a : Arrival) (j : ℕ)
         →
-        (isSummary (kindOfArrived a) ≡ true → Outside (rowNamed s (arrived a) * rowCell + atSummary)
-        (rowNamed s (arrived a) * rowCell + atReported) j)
+        (isSummary (kindOfArrived s a) ≡ true → Outside (rowNamed s (arrived s a) * rowCell + atSummary)
+        (rowNamed s (arrived s a) * rowCell + atReported) j)
         →
-        (isEvent (kindOfArrived a) ≡ false → Outside (rowNamed s (arrived a) * rowCell + atReported)
-        (rowNamed s (arrived a) * rowCell + rowCell) j)
+        (isEvent (kindOfArrived s a) ≡ false → Outside (rowNamed s (arrived s a) * rowCell + atReported)
+        (rowNamed s (arrived s a) * rowCell + rowCell) j)
         → getD (delivered s a .state .rows) j 0 ≡ getD (s .rows) j 0
     -- a message, lines: all but the live mark of the line that X and C name, and the new cell of T and C
     pub inLines : (a : Arrival) (j : ℕ) → Bytes (s .lines) → Bytes (a .message)
-        → (namesOld (kindOfArrived a) ≡ true → j ≡ lineNamed s (arrived a) * lineCell + atLive → ⊥)
-        → (makesNew (kindOfArrived a) ≡ true → Outside (s .counters .lines * lineCell) (s .counters .lines * lineCell + lineCell) j)
+        → (namesOld (kindOfArrived s a) ≡ true → j ≡ lineNamed s (arrived s a) * lineCell + atLive → ⊥)
+        → (makesNew (kindOfArrived s a) ≡ true → Outside (s .counters .lines * lineCell) (s .counters .lines * lineCell + lineCell) j)
         → getD (delivered s a .state .lines) j 0 ≡ getD (s .lines) j 0
     pub listedLines : (l : Listing) → listed s l .state .lines ≡ s .lines
     pub listedLength : (l : Listing) → length (listed s l .state .rows) ≡ length (s .rows)
@@ -207,7 +209,7 @@ module _ (s : State) where
     pub linesLength : (a : Arrival) → length (delivered s a .state .lines) ≡ length (s .lines)
 
   -- what holds of the state that is left where a listing is done holds of what is left, if it holds of what was
-  by-listing : {A : Type 0} (f : State → A) (l : Listing) → f (withListing s l) ≡ f s → f (listed s l .state) ≡ f s
+  pub by-listing : {A : Type 0} (f : State → A) (l : Listing) → f (withListing s l) ≡ f s → f (listed s l .state) ≡ f s
   unfolding listed
   by-listing f l d = go (eqb (listAnswer s l) 0)
     where
@@ -216,13 +218,13 @@ module _ (s : State) where
       go false = refl
 
   -- the same of a message that is taken; where it is refused, a number may be used up
-  by-arrival : {A : Type 0} (f : State → A) (a : Arrival) → f (spent s) ≡ f s
-      → (messageGiven s a .number ≡ 0 → f (taking s (arrived a)) ≡ f s)
+  pub by-arrival : {A : Type 0} (f : State → A) (a : Arrival) → f (spent s) ≡ f s
+      → (messageGiven s a .number ≡ 0 → f (taking s (arrived s a)) ≡ f s)
       → f (delivered s a .state) ≡ f s
   unfolding delivered
   by-arrival f a u d = go (eqb (messageGiven s a .number) 0) refl (messageGiven s a .uses)
     where
-      go : (t : Bool) → eqb (messageGiven s a .number) 0 ≡ t → (v : Bool) → f (cond t (taking s (arrived a)) (cond v (spent s) s)) ≡ f s
+      go : (t : Bool) → eqb (messageGiven s a .number) 0 ≡ t → (v : Bool) → f (cond t (taking s (arrived s a)) (cond v (spent s) s)) ≡ f s
       go true t v = d (eqb-true (messageGiven s a .number) 0 t)
       go false t true = u
       go false t false = refl
@@ -236,14 +238,14 @@ module _ (s : State) where
       row-outside (s .rows) i 0 (newRow l) (i * rowCell) (i * rowCell + rowCell) j (omega arith) (omega arith) (omega arith) o
 
   taking-keeps : (a : Arrival) (j : ℕ) → Bytes (s .lines) → Bytes (a .message)
-      → (namesOld (kindOfArrived a) ≡ true → j ≡ lineNamed s (arrived a) * lineCell + atLive → ⊥)
-      → (makesNew (kindOfArrived a) ≡ true → Outside (s .counters .lines * lineCell) (s .counters .lines * lineCell + lineCell) j)
-      → messageGiven s a .number ≡ 0 → getD (taking s (arrived a) .lines) j 0 ≡ getD (s .lines) j 0
+      → (namesOld (kindOfArrived s a) ≡ true → j ≡ lineNamed s (arrived s a) * lineCell + atLive → ⊥)
+      → (makesNew (kindOfArrived s a) ≡ true → Outside (s .counters .lines * lineCell) (s .counters .lines * lineCell + lineCell) j)
+      → messageGiven s a .number ≡ 0 → getD (taking s (arrived s a) .lines) j 0 ≡ getD (s .lines) j 0
   taking-keeps a j bl bm k o z =
       let w = answer-taken s a z in
       let fits : wantedIn s < 2 ^ 32 = omega (arith, w .wanted, w .greatest) in
-      lines-by-keep (kindOfArrived a) (s .lines) (s .counters .lines) (wantedIn s) (arrived a) (lineNamed s (arrived a)) j bl
-      (read-fits (a .message) bm) fits k o
+      lines-by-keep (kindOfArrived s a) (s .lines) (s .counters .lines) (wantedIn s) (arrived s a) (lineNamed s (arrived s a)) j bl
+      (read-fits (editionOf s) (a .message) bm) fits k o
 
   pub touches-only : TouchesOnly
   touches-only =
@@ -251,16 +253,17 @@ module _ (s : State) where
         listing = λ l j h o. by-listing (λ t. getD (t .rows) j 0) l (listing-keeps l j h o);
         inRows =
             λ a j p o. by-arrival (λ t. getD (t .rows) j 0) a refl
-            (λ z. rows-by-keep (kindOfArrived a) (s .rows) (arrived a) (rowNamed s (arrived a)) j p o);
+            (λ z. rows-by-keep (editionOf s) (kindOfArrived s a) (s .rows) (arrived s a) (rowNamed s (arrived s a)) j p o);
         inLines = λ a j bl bm k o. by-arrival (λ t. getD (t .lines) j 0) a refl (λ z. taking-keeps a j bl bm k o z);
         listedLines = λ l. by-listing (λ t. t .lines) l refl;
         listedLength = λ l. by-listing (λ t. length (t .rows)) l (row-length (s .rows) (s .counters .rows) 0 (newRow l));
         rowsLength =
             λ a. by-arrival (λ t. length (t .rows)) a refl
-            (λ z. rows-by-length (kindOfArrived a) (s .rows) (arrived a) (rowNamed s (arrived a)));
+            (λ z. rows-by-length (editionOf s) (kindOfArrived s a) (s .rows) (arrived s a) (rowNamed s (arrived s a)));
         linesLength =
             λ a. by-arrival (λ t. length (t .lines)) a refl
-            (λ z. lines-by-length (kindOfArrived a) (s .lines) (s .counters .lines) (wantedIn s) (arrived a) (lineNamed s (arrived a)));
+            (λ z. lines-by-length (kindOfArrived s a) (s .lines) (s .counters .lines) (wantedIn s) (arrived s a)
+            (lineNamed s (arrived s a)));
       }
 
   -- no row shows a volume above 65,536 times the greatest size

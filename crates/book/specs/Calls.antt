@@ -9,6 +9,7 @@ use Rattle.texts.specs.Text.{text}
 use Rattle.answers.specs.Answers.{answerOf}
 use Rattle.answers.specs.Cases.{Case, says, given, inBook}
 use Rattle.records.specs.declared.Record.{Record}
+use Rattle.message.specs.declared.Reading.{Reading}
 use Rattle.message.specs.Reader.{readOf}
 use Rattle.lines.specs.Lines.{lineWith}
 use Rattle.rules.specs.Rules.{priceTop}
@@ -22,7 +23,8 @@ use Rattle.take.specs.Taking.{linesBy, rowsBy, indexOf}
 use Rattle.show.specs.Showing.{shownOf, nothingShown}
 use Rattle.book.specs.declared.Located.{Located}
 use Rattle.book.specs.declared.Shown.{Shown}
-use Rattle.book.specs.State.{State, withCounters, withRows, withLines, Outcome, Arrival, wantedIn, sheetOf, linesIn, basisOf, soundIn}
+use Rattle.book.specs.State.{State, withCounters, withRows, withLines, Outcome, Arrival, editionOf, wantedIn, sheetOf, linesIn}
+use Rattle.book.specs.State.{basisOf, soundIn}
 
 -- ---- listing
 
@@ -62,9 +64,17 @@ listed s l = record { answer = listAnswer s l; state = cond (eqb (listAnswer s l
 abbrev pub numberCases : State → ℕ → List Case
 numberCases s n = inBook (soundIn s) (numberTable (wantedIn s) n)
 
+-- what a book reads a message as: by the edition that it was started for
+abbrev pub readingIn : State → List ℕ → Reading
+readingIn s m = readOf (editionOf s) m
+
+-- 4 to 12, of what is read
+abbrev pub contentCases : State → Arrival → List Case
+contentCases s a = contentTable (basisOf s) (readingIn s (a .message))
+
 -- 17, then the number, then the content
 abbrev pub messageCases : State → Arrival → List Case
-messageCases s a = inBook (soundIn s) (numberTable (wantedIn s) (a .number) ++ contentTable (basisOf s) (readOf (a .message)))
+messageCases s a = inBook (soundIn s) (numberTable (wantedIn s) (a .number) ++ contentCases s a)
 
 unfoldable pub messageGiven : State → Arrival → Case
 messageGiven s a = given (messageCases s a)
@@ -80,7 +90,7 @@ lineNamed s r = indexOf (lineWith (oldKey r) (linesIn s))
 abbrev pub taking : State → Record → State
 taking s r =
     withCounters (takenBy (kindIn r) (r .event) (s .counters))
-    (withRows (rowsBy (kindIn r) (s .rows) r (rowNamed s r))
+    (withRows (rowsBy (editionOf s) (kindIn r) (s .rows) r (rowNamed s r))
     (withLines (linesBy (kindIn r) (s .lines) (s .counters .lines) (wantedIn s) r (lineNamed s r)) s))
 
 -- used up: the wanted number up by one, all else equal
@@ -94,7 +104,7 @@ after s r g = cond (eqb (g .number) 0) (taking s r) (cond (g .uses) (spent s) s)
 unfoldable pub delivered : State → Arrival → Outcome
 delivered s a =
     let g = messageGiven s a in
-    record { answer = g .number; state = after s (readOf (a .message) .found) g }
+    record { answer = g .number; state = after s (readingIn s (a .message) .found) g }
 
 -- ---- reading a row
 

@@ -6,6 +6,7 @@ use mathlib.Core.List.{List, []}
 use mathlib.Core.Bool.{Bool}
 use lib.ListN.{length}
 use Rattle.answers.specs.Answers.{numberOf}
+use Rattle.editions.specs.declared.Edition.{Edition}
 use Rattle.lines.specs.declared.Line.{Line}
 use Rattle.lines.specs.Lines.{usedLines}
 use Rattle.rows.specs.declared.Listing.{Listing}
@@ -57,6 +58,10 @@ abbrev pub arrives : ℕ → List ℕ → Arrival
 arrives n m = record { number = n; message = m }
 
 -- ---- what stands in a state
+
+-- the edition that the book was started for
+abbrev pub editionOf : State → Edition
+editionOf s = s .counters .start .edition
 
 abbrev pub wantedIn : State → ℕ
 wantedIn s = s .counters .wanted

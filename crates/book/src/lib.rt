@@ -3,6 +3,7 @@
 use answers::Answer;
 use cells::Found;
 use counters::Counters;
+use editions::Edition;
 use kinds::kind_of;
 use rows::Listing;
 use rules::PRICE_TOP;
@@ -37,11 +38,11 @@ struct Located {
     row: usize,
 }
 
-// A fresh book. Starting one cannot be refused and touches no lent byte.
-pub fn fresh() -> Counters
-    ensures { λ c. ⌜ c ≡ freshCounters ⌝ }
+// A fresh book of an edition. Starting one cannot be refused and touches no lent byte.
+pub fn fresh(edition: Edition) -> Counters
+    ensures { λ c. ⌜ c ≡ freshCounters edition ⌝ }
 {
-    counters::fresh()
+    counters::fresh(edition)
 }
 
 // 13 to 17 or `Done`.
@@ -89,13 +90,15 @@ pub fn list(c: Counters, rows: &mut [u8], lines: &[u8], l: Listing) -> Said
     }
 }
 
-// A message that bears the wanted number: taken, or the number used up.
+// A message that bears the wanted number, read by the book's edition and by no other: taken, or the number used up.
 fn use_number(c: Counters, rows: &mut [u8], lines: &mut [u8], message: &[u8]) -> Said
     requires { ⌜ given (numberCases (lent c (now rows) (now lines)) (c .wanted)) .number ≡ 0 ⌝ }
     ensures { λ s. ⌜ leaving s (now (rows .exit)) (now (lines .exit))
         ≡ delivered (lent c (now (rows .entry)) (now (lines .entry))) (arrives (c .wanted) (now (message .entry))) ⌝ }
 {
-    let q = message::read(message);
+    let start = c.start;
+    let edition = start.edition;
+    let q = message::read(edition, message);
     let r = q.found;
     let kind = kind_of(r.letter);
     let v = judge(c.phase, rows, c.rows, lines, c.lines, kind, q);
@@ -107,7 +110,7 @@ fn use_number(c: Counters, rows: &mut [u8], lines: &mut [u8], message: &[u8]) ->
         };
     }
     take_lines(lines, c.lines, c.wanted as u32, kind, r, v.line);
-    take_rows(rows, kind, r, v.row);
+    take_rows(rows, edition, kind, r, v.row);
     Said {
         answer: Answer::Done,
         counters: c.take(kind, r.event),

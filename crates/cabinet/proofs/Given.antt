@@ -1,4 +1,4 @@
--- What the exported calls on a book are lent and given, and what they leave, by name.
+-- What the exported calls are lent and given, and what they leave, by name.
 -- Assumes nothing.
 use Prim.Native.Nat.{ℕ}
 use mathlib.Core.List.{List}
@@ -9,7 +9,7 @@ use denote.Triple.Clauses.{AtExit}
 use denote.Ref.{now}
 use Rattle.rows.specs.declared.Listing.{Listing}
 use Rattle.book.specs.State.{Arrival, arrives}
-use Rattle.cabinet.specs.Crossing.{Held, listingWith}
+use Rattle.cabinet.specs.Crossing.{Held, holding, listingWith}
 use Rattle.cabinet.proofs.sorundappa_start as start
 use Rattle.cabinet.proofs.sorundappa_start.Kinds as start-kinds
 use Rattle.cabinet.proofs.sorundappa_list as list
@@ -18,6 +18,10 @@ use Rattle.cabinet.proofs.sorundappa_deliver as deliver
 use Rattle.cabinet.proofs.sorundappa_deliver.Kinds as deliver-kinds
 use Rattle.cabinet.proofs.sorundappa_row as row
 use Rattle.cabinet.proofs.sorundappa_row.Kinds as row-kinds
+use Rattle.cabinet.proofs.sorundappa_read as read
+use Rattle.cabinet.proofs.sorundappa_read.Kinds as read-kinds
+use Rattle.cabinet.proofs.sorundappa_write as write
+use Rattle.cabinet.proofs.sorundappa_write.Kinds as write-kinds
 
 -- ---- the lifetimes of each call, its arguments, and what of them is there as it returns
 
@@ -57,42 +61,64 @@ RowArgs κs = ArgsD row.signature κs
 abbrev pub RowExit : RowLfts → Type 0
 RowExit κs = AtExit (endedOf (row.signature .lifetimes) row-kinds.ps row-kinds.r) κs
 
--- ---- a start: the words that it leaves
+abbrev pub ReadLfts : Type 0
+ReadLfts = Lfts (read.signature .lifetimes)
 
-abbrev pub startLeft : (κs : StartLfts) → StartExit κs → List ℕ
-startLeft κs x = now (x .0)
+abbrev pub ReadArgs : ReadLfts → Type 0
+ReadArgs κs = ArgsD read.signature κs
+
+abbrev pub ReadExit : ReadLfts → Type 0
+ReadExit κs = AtExit (endedOf (read.signature .lifetimes) read-kinds.ps read-kinds.r) κs
+
+abbrev pub WriteLfts : Type 0
+WriteLfts = Lfts (write.signature .lifetimes)
+
+abbrev pub WriteArgs : WriteLfts → Type 0
+WriteArgs κs = ArgsD write.signature κs
+
+abbrev pub WriteExit : WriteLfts → Type 0
+WriteExit κs = AtExit (endedOf (write.signature .lifetimes) write-kinds.ps write-kinds.r) κs
+
+-- ---- a start: the edition's number that it is given, and the words that it leaves
+
+module _ (κs : StartLfts) where
+  abbrev pub startGiven : StartArgs κs → ℕ
+  startGiven a = a .1 .0
+
+  abbrev pub startLeft : StartExit κs → List ℕ
+  startLeft x = now (x .0)
 
 -- ---- a listing
 
 module _ (κs : ListLfts) (a : ListArgs κs) where
   -- what the call is lent, and what it is given
   abbrev pub listFrom : Held
-  listFrom = record { words = now (a .0); rows = now (a .1 .0); lines = now (a .1 .1 .0) }
+  listFrom = holding (now (a .0)) (now (a .1 .0)) (now (a .1 .1 .0))
 
   abbrev pub listGiven : Listing
   listGiven = listingWith (now (a .1 .1 .1 .0)) (a .1 .1 .1 .1 .0)
 
   -- what it leaves; the room for lines is lent to be read
   abbrev pub listLeft : ListExit κs → Held
-  listLeft x = record { words = now (x .0); rows = now (x .1 .0); lines = now (a .1 .1 .0) }
+  listLeft x = holding (now (x .0)) (now (x .1 .0)) (now (a .1 .1 .0))
 
 -- ---- a delivery
 
 module _ (κs : DeliverLfts) where
   abbrev pub deliverFrom : DeliverArgs κs → Held
-  deliverFrom a = record { words = now (a .0); rows = now (a .1 .0); lines = now (a .1 .1 .0) }
+  deliverFrom a = holding (now (a .0)) (now (a .1 .0)) (now (a .1 .1 .0))
 
   abbrev pub deliverGiven : DeliverArgs κs → Arrival
   deliverGiven a = arrives (a .1 .1 .1 .0) (now (a .1 .1 .1 .1 .0))
 
   abbrev pub deliverLeft : DeliverExit κs → Held
-  deliverLeft x = record { words = now (x .0); rows = now (x .1 .0); lines = now (x .1 .1 .0) }
+  deliverLeft x = holding (now (x .0)) (now (x .1 .0)) (now (x .1 .1 .0))
 
 -- ---- a row's reading: all that a caller holds is lent to be read
 
 module _ (κs : RowLfts) where
   abbrev pub rowFrom : RowArgs κs → Held
-  rowFrom a = record { words = now (a .0); rows = now (a .1 .0); lines = now (a .1 .1 .0) }
+  rowFrom a = holding (now (a .0)) (now (a .1 .0)) (now (a .1 .1 .0))
 
   -- the symbol that is asked, and the words of the row
   abbrev pub rowAsked : RowArgs κs → List ℕ
@@ -100,3 +126,29 @@ module _ (κs : RowLfts) where
 
   abbrev pub rowLeft : RowExit κs → List ℕ
   rowLeft x = now (x .1 .1 .1 .1 .0)
+
+-- ---- a message alone: the edition's number, the message, and the bytes of its record
+
+module _ (κs : ReadLfts) where
+  abbrev pub readEdition : ReadArgs κs → ℕ
+  readEdition a = a .0
+
+  abbrev pub readMessage : ReadArgs κs → List ℕ
+  readMessage a = now (a .1 .0)
+
+  abbrev pub readLeft : ReadExit κs → List ℕ
+  readLeft x = now (x .1 .1 .0)
+
+-- the edition's number, the bytes of a record, and the space before the call and after it
+module _ (κs : WriteLfts) where
+  abbrev pub writeEdition : WriteArgs κs → ℕ
+  writeEdition a = a .0
+
+  abbrev pub writeGiven : WriteArgs κs → List ℕ
+  writeGiven a = now (a .1 .0)
+
+  abbrev pub writeFrom : WriteArgs κs → List ℕ
+  writeFrom a = now (a .1 .1 .0)
+
+  abbrev pub writeLeft : WriteExit κs → List ℕ
+  writeLeft x = now (x .1 .1 .0)

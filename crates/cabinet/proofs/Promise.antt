@@ -3,25 +3,13 @@
 -- call returns.
 -- Assumes nothing.
 use mathlib.Core.Path.{_≡_, ap, sym, _∙_}
-use mathlib.Core.List.{_++_}
-use Prim.Native.Nat.{ℕ, _≤_}
-use lib.ListN.{length, drop}
+use Prim.Native.Nat.{ℕ}
 use contract.Lifetimes.{Lfts}
 use borrow.Fn.World.{ArgsD}
 use borrow.Fn.Kinds.{endedOf}
 use denote.Triple.Clauses.{AtExit}
 use denote.Ref.{now}
-use Rattle.octets.specs.Run.{Bytes}
-use Rattle.records.specs.declared.Record.{Record}
-use Rattle.answers.specs.Answers.{numberOf}
-use Rattle.message.specs.Reader.{readOf}
-use Rattle.message.specs.Writer.{writeAnswer, writeOut}
-use Rattle.message.proofs.Fitting.{read-fits}
-use Rattle.layouts.proofs.Demand2.{read-again}
-use Rattle.records.specs.Packed.{recordOf}
-use Rattle.records.proofs.Again.{record-again}
-use Rattle.book.specs.State.{State}
-use Rattle.cabinet.specs.Crossing.{Crossed}
+use Rattle.cabinet.specs.Crossing.{Held, Crossed}
 use Rattle.cabinet.proofs.sorundappa_start as start
 use Rattle.cabinet.proofs.sorundappa_start.Reads as start-reads
 use Rattle.cabinet.proofs.sorundappa_start.Kinds as start-kinds
@@ -51,7 +39,7 @@ pub list-one : (κs : Lfts (list.signature .lifetimes)) (a : ArgsD list.signatur
     → list-reads.Learnt κs a r s → list-reads.Learnt κs a r′ s′ → (r ≡ r′) × (now (s .0) ≡ now (s′ .0)) × (now (s .1 .0) ≡ now (s′ .1 .0))
 list-one κs a r r′ s s′ h h′ =
     let e = h .0 ∙ sym (h′ .0) in
-    (ap (λ (x : Crossed). x .answer) e, ap (λ (x : Crossed). x .words) e, ap (λ (x : Crossed). x .state .rows) e)
+    (ap (λ (x : Crossed). x .answer) e, ap (λ (x : Crossed). x .left .words) e, ap (λ (x : Crossed). x .left .rows) e)
 
 pub deliver-one : (κs : Lfts (deliver.signature .lifetimes)) (a : ArgsD deliver.signature κs) (r r′ : ℕ)
     (s s′ : AtExit (endedOf (deliver.signature .lifetimes) deliver-kinds.ps deliver-kinds.r) κs)
@@ -59,11 +47,11 @@ pub deliver-one : (κs : Lfts (deliver.signature .lifetimes)) (a : ArgsD deliver
     → (r ≡ r′) × (now (s .0) ≡ now (s′ .0)) × (now (s .1 .0) ≡ now (s′ .1 .0)) × (now (s .1 .1 .0) ≡ now (s′ .1 .1 .0))
 deliver-one κs a r r′ s s′ h h′ =
     let e = h .0 ∙ sym (h′ .0) in
-    let left = ap (λ (x : Crossed). x .state) e in (
+    let left = ap (λ (x : Crossed). x .left) e in (
       ap (λ (x : Crossed). x .answer) e,
-      ap (λ (x : Crossed). x .words) e,
-      ap (λ (t : State). t .rows) left,
-      ap (λ (t : State). t .lines) left,
+      ap (λ (t : Held). t .words) left,
+      ap (λ (t : Held). t .rows) left,
+      ap (λ (t : Held). t .lines) left,
     )
 
 pub row-one : (κs : Lfts (row.signature .lifetimes)) (a : ArgsD row.signature κs) (r r′ : ℕ)
@@ -72,30 +60,13 @@ pub row-one : (κs : Lfts (row.signature .lifetimes)) (a : ArgsD row.signature �
 row-one κs a r r′ s s′ h h′ = (h .0 ∙ sym (h′ .0), h .1 ∙ sym (h′ .1))
 
 pub read-one : (κs : Lfts 2) (a : ArgsD read.signature κs) (r r′ : ℕ) (s s′ : AtExit (endedOf 2 read-kinds.ps read-kinds.r) κs)
-    → read-reads.Learnt κs a r s → read-reads.Learnt κs a r′ s′ → (r ≡ r′) × (now (s .1 .0) ≡ now (s′ .1 .0))
+    → read-reads.Learnt κs a r s → read-reads.Learnt κs a r′ s′ → (r ≡ r′) × (now (s .1 .1 .0) ≡ now (s′ .1 .1 .0))
 read-one κs a r r′ s s′ h h′ = (h .0 ∙ sym (h′ .0), h .1 ∙ sym (h′ .1))
 
 pub write-one : (κs : Lfts 2) (a : ArgsD write.signature κs) (r r′ : ℕ) (s s′ : AtExit (endedOf 2 write-kinds.ps write-kinds.r) κs)
-    → write-reads.Learnt κs a r s → write-reads.Learnt κs a r′ s′ → (r ≡ r′) × (now (s .1 .0) ≡ now (s′ .1 .0))
+    → write-reads.Learnt κs a r s → write-reads.Learnt κs a r′ s′ → (r ≡ r′) × (now (s .1 .1 .0) ≡ now (s′ .1 .1 .0))
 write-one κs a r r′ s s′ h h′ = (h .0 ∙ sym (h′ .0), h .1 .0 ∙ sym (h′ .1 .0))
 
 pub size-one : (which which₁ which₂ r r′ : ℕ) → size-reads.Learnt tt (which, tt) r (which₁, tt)
     → size-reads.Learnt tt (which, tt) r′ (which₂, tt) → r ≡ r′
 size-one which which₁ which₂ r r′ h h′ = h ∙ sym h′
-
--- ---- there and back, of calls
-
--- a message that was read is written again from the 80 bytes of its record, wherever there is room; the bytes past it stay
-pub written-back : (κs κs′ : Lfts 2) (a : ArgsD read.signature κs) (b : ArgsD write.signature κs′)
-    (r : ℕ) (s : AtExit (endedOf 2 read-kinds.ps read-kinds.r) κs) (w : ℕ) (x : AtExit (endedOf 2 write-kinds.ps write-kinds.r) κs′)
-    → read-reads.Learnt κs a r s → write-reads.Learnt κs′ b w x → now (b .0) ≡ now (s .1 .0)
-    → Bytes (now (a .0)) → r ≡ 0 → length (now (a .0)) ≤ length (now (b .1 .0))
-    → (w ≡ 0) × (now (x .1 .0) ≡ now (a .0) ++ drop (length (now (a .0))) (now (b .1 .0)))
-written-back κs κs′ a b r s w x h k e m z l =
-    let out = now (b .1 .0) in
-    let q = readOf (now (a .0)) .found in
-    let f : recordOf (now (b .0)) ≡ q = ap recordOf (e ∙ h .1) ∙ record-again q (read-fits (now (a .0)) m) in
-    let g = read-again (now (a .0)) out m (sym (h .0) ∙ z) l in (
-      k .0 ∙ ap (λ (o : Record). numberOf (writeAnswer o out)) f ∙ g .0,
-      k .1 .0 ∙ ap (λ (o : Record). writeOut o out) f ∙ g .1,
-    )

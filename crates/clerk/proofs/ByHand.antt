@@ -9,6 +9,7 @@ use mathlib.Core.Logic.{_⊎_, inl, inr}
 use native.Mathlib.Omega.{arith}
 use mathlib.Core.Bool.{Bool, true, false}
 use lib.ListN.{replicate}
+use Rattle.editions.specs.declared.Edition.the-variants.{NlsPlus, Pls}
 use Rattle.kinds.specs.Kinds as Kinds
 use Rattle.records.specs.declared.Sale.{Sale}
 use Rattle.records.specs.declared.Record.{Record}
@@ -113,13 +114,15 @@ abbrev listing : Listing
 listing = record { symbol = abcd; close = 2500 }
 
 -- none; one; a later one replaces it; the volume is that of the latest of either
-pub rows : (rowOf [] listing ≡ record { listing = listing; summary = NoSummary; reported = NotSet })
-    × (rowOf (j 2 20 10 ∷ []) listing ≡ record { listing = listing; summary = HighLow 20 10; reported = Volume 2 })
-    × (rowOf (j 3 30 15 ∷ j 2 20 10 ∷ []) listing ≡ record { listing = listing; summary = HighLow 30 15; reported = Volume 3 })
-    × (rowOf (t 4 81 (sale 49 1 1) ∷ j 3 30 15 ∷ j 2 20 10 ∷ []) listing
+pub rows : (rowOf NlsPlus [] listing ≡ record { listing = listing; summary = NoSummary; reported = NotSet })
+    × (rowOf NlsPlus (j 2 20 10 ∷ []) listing ≡ record { listing = listing; summary = HighLow 20 10; reported = Volume 2 })
+    × (rowOf NlsPlus (j 3 30 15 ∷ j 2 20 10 ∷ []) listing ≡ record { listing = listing; summary = HighLow 30 15; reported = Volume 3 })
+    × (rowOf NlsPlus (t 4 81 (sale 49 1 1) ∷ j 3 30 15 ∷ j 2 20 10 ∷ []) listing
     ≡ record { listing = listing; summary = HighLow 30 15; reported = Volume 4 })
+    -- in PLS no message reports
+    × (rowOf Pls (t 2 81 (sale 49 1 1) ∷ []) listing ≡ record { listing = listing; summary = NoSummary; reported = NotSet })
 unfolding rowOf summaryOf reportedOf Kinds.kindOf
-rows = (refl, refl, refl, refl)
+rows = (refl, refl, refl, refl, refl)
 
 -- ---- the numbers 2 and 1 as they arrive: two different numbers, and 1 is the largest count that comes in order
 

@@ -92,7 +92,7 @@ pub after-wanted : (limit : ℕ) (b : Book) (m : List ℕ) → wantedDone limit 
 unfolding wantedDone takenInto usingUp
 after-wanted limit b m = go (eqb (content limit b m) 0)
   where
-    go : (t : Bool) → cond t (takenInto (readOf m .found) b) (usingUp b) .wanted ≡ suc (b .wanted)
+    go : (t : Bool) → cond t (takenInto (readOf (b .edition) m .found) b) (usingUp b) .wanted ≡ suc (b .wanted)
     go true = add-one (b .wanted)
     go false = add-one (b .wanted)
 

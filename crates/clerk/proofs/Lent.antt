@@ -9,15 +9,14 @@ use Rattle.octets.proofs.Bytes.{either-way, cons-bytes}
 use Rattle.records.specs.declared.Record.{Record}
 use Rattle.kinds.specs.declared.Kind.{Kind}
 use Rattle.kinds.specs.Kinds.{isCorrection, namesOld, makesNew}
-use Rattle.message.specs.Reader.{readOf}
 use Rattle.message.proofs.Fitting.{RecordBytes, read-bytes}
 use Rattle.lines.specs.declared.Line.{Line}
 use Rattle.lines.specs.Lines.{lineBytes, lineIn, withLine, withDead}
 use Rattle.lines.proofs.Bytes.{line-bytes, with-line-bytes, with-dead-bytes}
 use Rattle.keys.specs.Keys.{kindIn}
 use Rattle.take.specs.Taking.{madeLine, correctedLine, corrected, linesBy}
-use Rattle.book.specs.State.{State, Arrival, wantedIn}
-use Rattle.book.specs.Calls.{messageGiven, lineNamed, taking, spent, delivered}
+use Rattle.book.specs.State.{State, Arrival, editionOf, wantedIn}
+use Rattle.book.specs.Calls.{readingIn, messageGiven, lineNamed, taking, spent, delivered}
 
 -- ---- what is stored
 
@@ -43,8 +42,8 @@ module _ (r : Record) (h : RecordBytes r) where
 pub deliver-bytes : (s : State) (a : Arrival) → Bytes (s .lines) → Bytes (a .message) → Bytes (delivered s a .state .lines)
 unfolding delivered
 deliver-bytes s a bl bm =
-    let r = readOf (a .message) .found in
+    let r = readingIn s (a .message) .found in
     let P : State → Type 0 = λ t. Bytes (t .lines) in
     either-way P (eqb (messageGiven s a .number) 0) (taking s r) (cond (messageGiven s a .uses) (spent s) s)
-    (lines-bytes r (read-bytes (a .message) bm) (kindIn r) (s .lines) (s .counters .lines) (wantedIn s) (lineNamed s r) bl)
+    (lines-bytes r (read-bytes (editionOf s) (a .message) bm) (kindIn r) (s .lines) (s .counters .lines) (wantedIn s) (lineNamed s r) bl)
     (either-way P (messageGiven s a .uses) (spent s) s bl bl)

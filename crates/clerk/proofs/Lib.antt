@@ -10,3 +10,4 @@ pub mod Wall
 pub mod States
 pub mod Demand3
 pub mod Runs
+pub mod Unreported

@@ -12,10 +12,13 @@ use lib.Dec.{eqb}
 use lib.ListN.{length}
 use Rattle.octets.specs.Run.{same}
 use Rattle.octets.proofs.Trips.{same-is}
+use Rattle.editions.specs.declared.Edition.{Edition}
+use Rattle.editions.specs.Editions.{reports}
 use Rattle.message.specs.Reader.{readOf}
 use Rattle.records.specs.declared.Record.{Record}
 use Rattle.lines.specs.declared.Line.{Line}
 use Rattle.rows.specs.declared.Listing.{Listing}
+use Rattle.rows.specs.declared.Reported.the-variants.{NotSet}
 use Rattle.keys.specs.Keys.{oldKey}
 use Rattle.clerk.specs.Messages.{namesIn, makesIn, keyIn}
 use Rattle.figures.specs.declared.Figures.{Figures}
@@ -24,7 +27,7 @@ use Rattle.walk.specs.Meaning.{Are}
 use Rattle.walk.proofs.Meaning.{figures-are, figures-one}
 use Rattle.show.specs.Showing.{shownOf}
 use Rattle.clerk.specs.Clerk.{isIn, basisAfter, Taken, Origin, originOf, names, trade, made, tradesBut, tradesOf, takenOf, rowOf}
-use Rattle.clerk.specs.Clerk.{answerTo, shownBy, bookBy, clerkBook}
+use Rattle.clerk.specs.Clerk.{answerTo, summaryOf, reportedOf, shownBy, bookBy, clerkBook}
 use Rattle.clerk.specs.Claims.{NoRepeat, keysOf, namedIn, namesDone, MadeLive}
 use Rattle.clerk.proofs.Passing.{Passed}
 use Rattle.clerk.proofs.Lines.{or-false-left, or-false-right, or-swap, listed-append, borne-is, named, named-hit, named-append}
@@ -41,7 +44,7 @@ or-true false b h e = h
 in-neither : (k : List ℕ) (xs ys : List (List ℕ)) → isIn k xs ≡ false → isIn k ys ≡ false → isIn k (xs ++ ys) ≡ false
 in-neither k xs ys e f = listed-append k xs ys ∙ rw (e, f)
 
-module _ (sheet : List Listing) (limit : ℕ) where
+module _ (ed : Edition) (sheet : List Listing) (limit : ℕ) where
   -- the key that a taken message names is borne by a line
   names-borne : (es : List Taken) (r : Record) → Passed (basisAfter sheet limit es) r → namesIn r ≡ true
       → isIn (oldKey r) (keysOf (tradesOf es)) ≡ true
@@ -63,7 +66,8 @@ module _ (sheet : List Listing) (limit : ℕ) where
       go false t = refl
 
   -- only a key that some line bears was named
-  never-named : (k : List ℕ) (es : List Taken) → Took sheet limit es → isIn k (keysOf (tradesOf es)) ≡ false → isIn k (namedIn es) ≡ false
+  never-named : (k : List ℕ) (es : List Taken) → Took ed sheet limit es → isIn k (keysOf (tradesOf es)) ≡ false
+      → isIn k (namedIn es) ≡ false
   unfolding namedIn
   never-named k [] w h = refl
   never-named k (e ∷ es) w h =
@@ -92,7 +96,7 @@ module _ (sheet : List Listing) (limit : ℕ) where
       go false h v = absurd (true≢false (sym h))
 
   -- a trade that is live was not named
-  live-unnamed : (k : List ℕ) (later : List (List ℕ)) (es : List Taken) → Took sheet limit es
+  live-unnamed : (k : List ℕ) (later : List (List ℕ)) (es : List Taken) → Took ed sheet limit es
       → isIn k (keysOf (tradesBut later es)) ≡ true → named k (tradesBut later es) .live ≡ true
       → (isIn k (namedIn es) ≡ false) × (isIn k later ≡ false)
   unfolding tradesBut namedIn
@@ -123,7 +127,7 @@ module _ (sheet : List Listing) (limit : ℕ) where
           (sym (listed-append k (keysOf A) (keysOf M)) ∙ ap (isIn k) (sym (map-append (λ (l : Line). l .key) A M)) ∙ h) t in
           (in-neither k ns (namedIn es) (not-named k es (e .message) (w .0) f) (never-named k es (w .1) f), made-live k e es later g v)
 
-  once : (es : List Taken) → Took sheet limit es → NoRepeat (namedIn es)
+  once : (es : List Taken) → Took ed sheet limit es → NoRepeat (namedIn es)
   unfolding namedIn
   once [] w = tt
   once (e ∷ es) w = go (namesIn (e .message)) refl (once es (w .1))
@@ -138,28 +142,28 @@ module _ (sheet : List Listing) (limit : ℕ) where
       go false t i = i
 
   -- the keys that taken X and C named have no repeat
-  pub at-most-once : (ms : List (List ℕ)) → NoRepeat (namedIn (takenOf sheet limit ms))
-  at-most-once ms = once (takenOf sheet limit ms) (took sheet limit ms)
+  pub at-most-once : (ms : List (List ℕ)) → NoRepeat (namedIn (takenOf ed sheet limit ms))
+  at-most-once ms = once (takenOf ed sheet limit ms) (took ed sheet limit ms)
 
   -- one message more names what it names if it is answered 0, which turned about is itself
   pub named-more : (ms : List (List ℕ)) (m : List ℕ)
-      → let es = takenOf sheet limit ms in
-      namedIn (takenOf sheet limit (m ∷ ms)) ≡ reverseAux (namesDone m (answerTo sheet limit es m)) (namedIn es)
+      → let es = takenOf ed sheet limit ms in
+      namedIn (takenOf ed sheet limit (m ∷ ms)) ≡ reverseAux (namesDone ed m (answerTo ed sheet limit es m)) (namedIn es)
   unfolding takenOf namedIn
-  named-more ms m = go (answerTo sheet limit es m) (eqb (answerTo sheet limit es m) 0) refl
+  named-more ms m = go (answerTo ed sheet limit es m) (eqb (answerTo ed sheet limit es m) 0) refl
     where
       es : List Taken
-      es = takenOf sheet limit ms
+      es = takenOf ed sheet limit ms
 
       r : Record
-      r = readOf m .found
+      r = readOf ed m .found
 
       one : (u : Bool) → cond u (oldKey r ∷ []) [] ++ namedIn es ≡ reverseAux (cond u (oldKey r ∷ []) []) (namedIn es)
       one true = refl
       one false = refl
 
       go : (k : ℕ) (t : Bool) → eqb k 0 ≡ t
-          → namedIn (cond (eqb k 0) (record { number = suc (length ms); message = r } ∷ es) es) ≡ reverseAux (namesDone m k) (namedIn es)
+          → namedIn (cond (eqb k 0) (record { number = suc (length ms); message = r } ∷ es) es) ≡ reverseAux (namesDone ed m k) (namedIn es)
       go k true e = rw e (one (namesIn r))
       go k false e = rw e
 
@@ -260,21 +264,27 @@ live-of es l = (λ h. there h, λ h. back h)
         )
 
 -- his live lines are exactly those that some taken message made and no taken message named since
-pub live-exactly : (sheet : List Listing) (limit : ℕ) (ms : List (List ℕ)) (l : Line)
-    → (List·Memᴰ l (clerkBook sheet limit ms .lines) × (l .live ≡ true)) ↔ MadeLive (takenOf sheet limit ms) l
+pub live-exactly : (ed : Edition) (sheet : List Listing) (limit : ℕ) (ms : List (List ℕ)) (l : Line)
+    → (List·Memᴰ l (clerkBook ed sheet limit ms .lines) × (l .live ≡ true)) ↔ MadeLive (takenOf ed sheet limit ms) l
 unfolding clerkBook bookBy
-live-exactly sheet limit ms l = live-of (takenOf sheet limit ms) l
+live-exactly ed sheet limit ms l = live-of (takenOf ed sheet limit ms) l
 
 -- ---- the figures
 
 -- what the clerk shows of a listed symbol are the figures that his live trades of the symbol mean
-pub clerk-figures : (es : List Taken) (l : Listing)
-    → (f : Figures) × Are (l .symbol) (tradesOf es) f × (shownBy es l ≡ shownOf (rowOf es l) f)
+pub clerk-figures : (ed : Edition) (es : List Taken) (l : Listing)
+    → (f : Figures) × Are (l .symbol) (tradesOf es) f × (shownBy ed es l ≡ shownOf (rowOf ed es l) f)
 unfolding shownBy
-clerk-figures es l = (figuresOf (l .symbol) (tradesOf es), figures-are (l .symbol) (tradesOf es), refl)
+clerk-figures ed es l = (figuresOf (l .symbol) (tradesOf es), figures-are (l .symbol) (tradesOf es), refl)
 
 -- and no other figures
-pub clerk-figures-one : (es : List Taken) (l : Listing) (f : Figures) → Are (l .symbol) (tradesOf es) f
-    → shownBy es l ≡ shownOf (rowOf es l) f
+pub clerk-figures-one : (ed : Edition) (es : List Taken) (l : Listing) (f : Figures) → Are (l .symbol) (tradesOf es) f
+    → shownBy ed es l ≡ shownOf (rowOf ed es l) f
 unfolding shownBy
-clerk-figures-one es l f a = ap (shownOf (rowOf es l)) (figures-one (figures-are (l .symbol) (tradesOf es)) a)
+clerk-figures-one ed es l f a = ap (shownOf (rowOf ed es l)) (figures-one (figures-are (l .symbol) (tradesOf es)) a)
+
+-- in an edition whose messages do not report, no row that he shows has a reported volume, and none agrees
+pub never-reported : (ed : Edition) (es : List Taken) (l : Listing) → reports ed ≡ false
+    → (shownBy ed es l .reported ≡ NotSet) × (shownBy ed es l .agrees ≡ false)
+unfolding shownBy rowOf summaryOf reportedOf shownOf
+never-reported ed es l none = (rw none, rw none)

@@ -1,5 +1,5 @@
--- The runs that the day's theorems speak of exist: for rooms of any bytes, any listings and any arrivals there is such a day, and each
--- symbol can be read then.
+-- The runs that the day's theorems speak of exist: for a book of any edition, rooms of any bytes, any listings and any arrivals there is
+-- such a day, and each symbol can be read then.
 -- Assumes nothing.
 use Prim.Native.Nat.{ℕ}
 use mathlib.Core.Path.{_≡_, refl, sym, subst}
@@ -8,6 +8,7 @@ use mathlib.Core.List.{List, [], _∷_}
 use lib.Dec.{eqb}
 use Rattle.octets.specs.Run.{Bytes}
 use Rattle.answers.specs.Answers.{numberOf, answerOf}
+use Rattle.editions.specs.declared.Edition.{Edition}
 use Rattle.rows.specs.declared.Listing.{Listing}
 use Rattle.rows.specs.Changed.{ListingFits}
 use Rattle.counters.specs.Counting.{freshCounters}
@@ -76,12 +77,12 @@ delivers-there s (a ∷ l) bl h =
           (t .1),
     )
 
-pub day-there : (rooms : State) (ls : List Listing) (l : List Arrival) → Bytes (rooms .lines) → AllFit ls → AllBytes l
-    → (end : State) × Day rooms ls l end
-day-there rooms ls l bl e b =
-    let p = lists-there (withCounters freshCounters rooms) ls e in
+pub day-there : (ed : Edition) (rooms : State) (ls : List Listing) (l : List Arrival) → Bytes (rooms .lines) → AllFit ls → AllBytes l
+    → (end : State) × Day ed rooms ls l end
+day-there ed rooms ls l bl e b =
+    let p = lists-there (withCounters (freshCounters ed) rooms) ls e in
     let q = delivers-there (p .0) l (subst Bytes (sym (p .1)) bl) b in
-    (q .0, record { start = freshCounters; started = refl; ready = p .0; lists = p .2; delivers = q .1 })
+    (q .0, record { start = freshCounters ed; started = refl; ready = p .0; lists = p .2; delivers = q .1 })
 
 -- what a reading tells is told by some reading
 pub reading-there : (s : State) (symbol : List ℕ) → Reads s symbol (shown s symbol)

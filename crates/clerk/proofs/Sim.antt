@@ -11,7 +11,8 @@ use lib.Dec.{eqb}
 use lib.ListN.{length, length-map, length-append}
 use Rattle.octets.specs.Run.{same}
 use Rattle.octets.proofs.Trips.{same-is}
-use Rattle.message.specs.Reader.{readOf}
+use Rattle.editions.specs.declared.Edition.{Edition}
+use Rattle.editions.specs.Editions.{reports}
 use Rattle.records.specs.declared.Record.{Record}
 use Rattle.cells.specs.declared.Found.{Found}
 use Rattle.cells.specs.declared.Found.the-variants.{Nothing, At}
@@ -34,7 +35,7 @@ use Rattle.take.specs.Taking.{madeLine, correctedLine}
 use Rattle.clerk.specs.Steps.{Book, lineFound, killFound, linesFor, keeping, summing, changeFound, rowsFor}
 use Rattle.clerk.specs.Steps.{takenInto, usingUp, content, wantedDone}
 use Rattle.clerk.specs.Clerk.{isIn, symbolsIn, sheetFrom, Taken, phaseAfter, Origin, originOf, names, trade, made, tradesBut}
-use Rattle.clerk.specs.Clerk.{tradesOf, basisAfter, answerTo, takenOf, summaryOf, reportedOf, rowOf, bookBy, clerkBook}
+use Rattle.clerk.specs.Clerk.{tradesOf, basisAfter, clerkReading, answerTo, takenOf, summaryOf, reportedOf, rowOf, bookBy, clerkBook}
 use Rattle.clerk.specs.Arrivals.{play}
 use Rattle.clerk.specs.Claims.{NoRepeat, keysOf}
 use Rattle.clerk.proofs.Passing.{Passed, passed, listable}
@@ -276,10 +277,10 @@ module _ (n : ℕ) (r : Record) (es : List Taken) where
 
 -- ---- rows
 
-pub sheet-is : (es : List Taken) (sheet : List Listing) → sheetIn (map (rowOf es) sheet) ≡ sheet
+pub sheet-is : (ed : Edition) (es : List Taken) (sheet : List Listing) → sheetIn (map (rowOf ed es) sheet) ≡ sheet
 unfolding rowOf
-sheet-is es [] = refl
-sheet-is es (l ∷ sheet) = ap {B = List Listing} (λ x. l ∷ x) (sheet-is es sheet)
+sheet-is ed es [] = refl
+sheet-is ed es (l ∷ sheet) = ap {B = List Listing} (λ x. l ∷ x) (sheet-is ed es sheet)
 
 row-up : (change : Row → Row) (w : Row) (ws : List Row) (f : Found) → changeFound change (w ∷ ws) (up f) ≡ w ∷ changeFound change ws f
 row-up change w ws Nothing = refl
@@ -311,67 +312,80 @@ module _ (r : Record) (change : Row → Row) (g h : Listing → Row)
           ∙ row-up change (g l) (map g sheet) (listingOf (r .symbol) sheet)
           ∙ ap₂ {C = List Row} (λ a b. a ∷ b) (miss l t) i
 
-module _ (n : ℕ) (r : Record) (es : List Taken) where
+module _ (ed : Edition) (n : ℕ) (r : Record) (es : List Taken) where
   abbrev before : Listing → Row
-  before = rowOf es
+  before = rowOf ed es
 
   abbrev behind : Listing → Row
-  behind = rowOf (e n r es ∷ es)
+  behind = rowOf ed (e n r es ∷ es)
 
-  -- a message that is no J and sets no volume
-  silent : summaryIn r ≡ false → setsIn r ≡ false → (sheet : List Listing) → map before sheet ≡ map behind sheet
-  unfolding rowOf summaryOf reportedOf
-  silent j s [] = refl
-  silent j s (l ∷ sheet) = ap₂ {C = List Row} (λ a b. a ∷ b) (rw (j, s)) (silent j s sheet)
+  -- in an edition whose messages do not report
+  unreported : reports ed ≡ false → (sheet : List Listing) → map before sheet ≡ map behind sheet
+  unfolding rowOf
+  unreported p [] = refl
+  unreported p (l ∷ sheet) = ap₂ {C = List Row} (λ a b. a ∷ b) (rw p) (unreported p sheet)
 
-  -- one that sets a volume, and is no J, or is one
-  reports : summaryIn r ≡ false → setsIn r ≡ true → (l : Listing)
-      → (same (l .symbol) (r .symbol) ≡ true → keeping r (before l) ≡ behind l)
-      × (same (l .symbol) (r .symbol) ≡ false → before l ≡ behind l)
-  unfolding rowOf summaryOf reportedOf
-  reports j s l = (λ q. rw (j, s, q), λ q. rw (j, s, q))
+  -- in one whose messages do
+  module _ (p : reports ed ≡ true) where
+    -- a message that is no J and sets no volume
+    silent : summaryIn r ≡ false → setsIn r ≡ false → (sheet : List Listing) → map before sheet ≡ map behind sheet
+    unfolding rowOf summaryOf reportedOf
+    silent j s [] = refl
+    silent j s (l ∷ sheet) = ap₂ {C = List Row} (λ a b. a ∷ b) (rw (p, j, s)) (silent j s sheet)
 
-  sums : summaryIn r ≡ true → setsIn r ≡ true → (l : Listing)
-      → (same (l .symbol) (r .symbol) ≡ true → summing r (before l) ≡ behind l)
-      × (same (l .symbol) (r .symbol) ≡ false → before l ≡ behind l)
-  unfolding rowOf summaryOf reportedOf
-  sums j s l = (λ q. rw (j, s, q), λ q. rw (j, s, q))
+    -- one that sets a volume, and is no J, or is one
+    sets : summaryIn r ≡ false → setsIn r ≡ true → (l : Listing)
+        → (same (l .symbol) (r .symbol) ≡ true → keeping r (before l) ≡ behind l)
+        × (same (l .symbol) (r .symbol) ≡ false → before l ≡ behind l)
+    unfolding rowOf summaryOf reportedOf
+    sets j s l = (λ q. rw (p, j, s, q), λ q. rw (p, j, s, q))
 
-  rows-step : (sheet : List Listing) → NoRepeat (symbolsIn sheet) → rowsFor (kindIn r) r (map before sheet) ≡ map behind sheet
+    sums : summaryIn r ≡ true → setsIn r ≡ true → (l : Listing)
+        → (same (l .symbol) (r .symbol) ≡ true → summing r (before l) ≡ behind l)
+        × (same (l .symbol) (r .symbol) ≡ false → before l ≡ behind l)
+    unfolding rowOf summaryOf reportedOf
+    sums j s l = (λ q. rw (p, j, s, q), λ q. rw (p, j, s, q))
+
+  rows-step : (sheet : List Listing) → NoRepeat (symbolsIn sheet) → rowsFor ed (kindIn r) r (map before sheet) ≡ map behind sheet
   unfolding rowsFor
-  rows-step sheet d = go (summaryIn r) refl (setsIn r) refl
+  rows-step sheet d = by (reports ed) refl
     where
       in-row : (change : Row → Row) → ((l : Listing)
           → (same (l .symbol) (r .symbol) ≡ true → change (before l) ≡ behind l)
           × (same (l .symbol) (r .symbol) ≡ false → before l ≡ behind l))
           → changeFound change (map before sheet) (listingOf (r .symbol) (sheetIn (map before sheet))) ≡ map behind sheet
-      in-row change k = rw (sheet-is es sheet) (row-step r change before behind (λ l. k l .0) (λ l. k l .1) sheet d)
+      in-row change k = rw (sheet-is ed es sheet) (row-step r change before behind (λ l. k l .0) (λ l. k l .1) sheet d)
 
-      go : (j : Bool) → summaryIn r ≡ j → (t : Bool) → setsIn r ≡ t → rowsFor (kindIn r) r (map before sheet) ≡ map behind sheet
-      go true j true t = rw j (in-row (summing r) (sums j t))
-      go true j false t = absurd (true≢false (sym (summary-sets (kindIn r) j) ∙ t))
-      go false j true t = rw (j, t) (in-row (keeping r) (reports j t))
-      go false j false t = rw (j, t) (silent j t sheet)
+      go : reports ed ≡ true → (j : Bool) → summaryIn r ≡ j → (t : Bool) → setsIn r ≡ t
+          → rowsFor ed (kindIn r) r (map before sheet) ≡ map behind sheet
+      go p true j true t = rw (p, j) (in-row (summing r) (sums p j t))
+      go p true j false t = absurd (true≢false (sym (summary-sets (kindIn r) j) ∙ t))
+      go p false j true t = rw (p, j, t) (in-row (keeping r) (sets p j t))
+      go p false j false t = rw (p, j, t) (silent p j t sheet)
+
+      by : (b : Bool) → reports ed ≡ b → rowsFor ed (kindIn r) r (map before sheet) ≡ map behind sheet
+      by true p = go p (summaryIn r) refl (setsIn r) refl
+      by false p = rw p (unreported p sheet)
 
 -- ---- what the clerk takes, the table does not refuse
 
-module _ (sheet : List Listing) (limit : ℕ) where
+module _ (ed : Edition) (sheet : List Listing) (limit : ℕ) where
   -- each message of the list, after those before it
   abbrev pub Took : List Taken → Type 0
   Took [] = Unit {0}
   Took (e ∷ es) = Passed (basisAfter sheet limit es) (e .message) × Took es
 
-  pub took : (ms : List (List ℕ)) → Took (takenOf sheet limit ms)
+  pub took : (ms : List (List ℕ)) → Took (takenOf ed sheet limit ms)
   unfolding takenOf
   took [] = tt
-  took (m ∷ ms) = go (eqb (answerTo sheet limit (takenOf sheet limit ms) m) 0) refl (took ms)
+  took (m ∷ ms) = go (eqb (answerTo ed sheet limit (takenOf ed sheet limit ms) m) 0) refl (took ms)
     where
       es : List Taken
-      es = takenOf sheet limit ms
+      es = takenOf ed sheet limit ms
 
-      go : (t : Bool) → eqb (answerTo sheet limit es m) 0 ≡ t → Took es
-          → Took (cond t (record { number = suc (length ms); message = readOf m .found } ∷ es) es)
-      go true t i = (passed (basisAfter sheet limit es) (readOf m) (eqb-true (answerTo sheet limit es m) 0 t), i)
+      go : (t : Bool) → eqb (answerTo ed sheet limit es m) 0 ≡ t → Took es
+          → Took (cond t (record { number = suc (length ms); message = clerkReading ed m .found } ∷ es) es)
+      go true t i = (passed (basisAfter sheet limit es) (clerkReading ed m) (eqb-true (answerTo ed sheet limit es m) 0 t), i)
       go false t i = i
 
   -- no two trades bear one key
@@ -386,52 +400,54 @@ module _ (sheet : List Listing) (limit : ℕ) where
           no-repeat-snoc (keysOf (tradesOf es)) (keyIn (e .message)) u (sym (borne-is (keyIn (e .message)) (tradesOf es)) ∙ w .0 .isNew t)
       go false t u = rw append-nil u
 
-  pub one-trade-per-key : (ms : List (List ℕ)) → NoRepeat (keysOf (tradesOf (takenOf sheet limit ms)))
-  one-trade-per-key ms = unique (takenOf sheet limit ms) (took ms)
+  pub one-trade-per-key : (ms : List (List ℕ)) → NoRepeat (keysOf (tradesOf (takenOf ed sheet limit ms)))
+  one-trade-per-key ms = unique (takenOf ed sheet limit ms) (took ms)
 
   -- ---- one used message
 
-  pub content-is : (es : List Taken) (n : ℕ) (m : List ℕ) → content limit (bookBy sheet es n) m ≡ answerTo sheet limit es m
+  pub content-is : (es : List Taken) (n : ℕ) (m : List ℕ) → content limit (bookBy ed sheet es n) m ≡ answerTo ed sheet limit es m
   unfolding content bookBy
   content-is es n m =
       ap (λ (x : List Listing). given (contentTable
-      (record { phase = phaseAfter es; sheet = x; ledger = searched (tradesOf es) limit }) (readOf m)) .number) (sheet-is es sheet)
+      (record { phase = phaseAfter es; sheet = x; ledger = searched (tradesOf es) limit }) (clerkReading ed m)) .number)
+      (sheet-is ed es sheet)
 
   module _ (d : NoRepeat (symbolsIn sheet)) (es : List Taken) (n : ℕ) (m : List ℕ) (u : NoRepeat (keysOf (tradesOf es))) where
     abbrev more : List Taken
-    more = record { number = suc n; message = readOf m .found } ∷ es
+    more = record { number = suc n; message = clerkReading ed m .found } ∷ es
 
-    taking-is : takenInto (readOf m .found) (bookBy sheet es n) ≡ bookBy sheet more (suc n)
+    taking-is : takenInto (clerkReading ed m .found) (bookBy ed sheet es n) ≡ bookBy ed sheet more (suc n)
     unfolding takenInto bookBy
     taking-is =
-        let r = readOf m .found in
+        let r = clerkReading ed m .found in
         rw (
           phase-step (suc n) r es,
-          rows-step (suc n) r es sheet d,
+          rows-step ed (suc n) r es sheet d,
           lines-step (suc n) r es u,
           add-one (suc n),
           add-one (length es),
           sym (lines-count (suc n) r es),
         )
 
-    after-is : wantedDone limit (bookBy sheet es n) m ≡ bookBy sheet (cond (eqb (answerTo sheet limit es m) 0) more es) (suc n)
+    after-is : wantedDone limit (bookBy ed sheet es n) m ≡ bookBy ed sheet (cond (eqb (answerTo ed sheet limit es m) 0) more es) (suc n)
     unfolding wantedDone usingUp bookBy
-    after-is = rw (content-is es n m) (go (eqb (answerTo sheet limit es m) 0))
+    after-is = rw (content-is es n m) (go (eqb (answerTo ed sheet limit es m) 0))
       where
         go : (t : Bool)
-            → cond t (takenInto (readOf m .found) (bookBy sheet es n)) (usingUp (bookBy sheet es n)) ≡ bookBy sheet (cond t more es) (suc n)
+            → cond t (takenInto (clerkReading ed m .found) (bookBy ed sheet es n)) (usingUp (bookBy ed sheet es n))
+            ≡ bookBy ed sheet (cond t more es) (suc n)
         go true = taking-is
         go false = rw (add-one (suc n))
 
   -- his book after one more used message is what the step makes of his book before it
   pub clerk-after : NoRepeat (symbolsIn sheet) → (ms : List (List ℕ)) (m : List ℕ)
-      → wantedDone limit (clerkBook sheet limit ms) m ≡ clerkBook sheet limit (m ∷ ms)
+      → wantedDone limit (clerkBook ed sheet limit ms) m ≡ clerkBook ed sheet limit (m ∷ ms)
   unfolding clerkBook takenOf
-  clerk-after d ms m = after-is d (takenOf sheet limit ms) (length ms) m (one-trade-per-key ms)
+  clerk-after d ms m = after-is d (takenOf ed sheet limit ms) (length ms) m (one-trade-per-key ms)
 
   -- the book after any used messages is the clerk's
-  plays : NoRepeat (symbolsIn sheet) → (b : Book) → b ≡ clerkBook sheet limit [] → (ms : List (List ℕ))
-      → play limit b ms ≡ clerkBook sheet limit ms
+  plays : NoRepeat (symbolsIn sheet) → (b : Book) → b ≡ clerkBook ed sheet limit [] → (ms : List (List ℕ))
+      → play limit b ms ≡ clerkBook ed sheet limit ms
   unfolding play
   plays d b e [] = e
   plays d b e (m ∷ ms) = ap (λ (x : Book). wantedDone limit x m) (plays d b e ms) ∙ clerk-after d ms m
@@ -439,9 +455,10 @@ module _ (sheet : List Listing) (limit : ℕ) where
 -- ---- from the listed sheet
 
 -- the book on which a sheet is listed and nothing else was done
-abbrev pub listedBook : List Listing → Book
-listedBook sheet =
+abbrev pub listedBook : Edition → List Listing → Book
+listedBook ed sheet =
     record {
+      edition = ed;
       wanted = 1;
       phase = 0;
       rows = map listedRow sheet;
@@ -451,13 +468,27 @@ listedBook sheet =
       taken = 0;
     }
 
-pub listed-is : (sheet : List Listing) (limit : ℕ) → listedBook sheet ≡ clerkBook sheet limit []
-unfolding clerkBook takenOf bookBy rowOf phaseAfter tradesBut summaryOf reportedOf
-listed-is sheet limit = refl
+-- a row as it was listed is that of no taken message
+row-listed : (ed : Edition) (l : Listing) → listedRow l ≡ rowOf ed [] l
+unfolding rowOf summaryOf reportedOf
+row-listed ed l = go (reports ed)
+  where
+    go : (b : Bool) → let told = cond b [] [] in
+        listedRow l ≡ record { listing = l; summary = summaryOf told (l .symbol); reported = reportedOf told (l .symbol) }
+    go true = refl
+    go false = refl
 
-pub book-is-clerks : (sheet : List Listing) (limit : ℕ) → NoRepeat (symbolsIn sheet) → (ms : List (List ℕ))
-    → play limit (listedBook sheet) ms ≡ clerkBook sheet limit ms
-book-is-clerks sheet limit d ms = plays sheet limit d (listedBook sheet) (listed-is sheet limit) ms
+rows-listed : (ed : Edition) (sheet : List Listing) → map listedRow sheet ≡ map (rowOf ed []) sheet
+rows-listed ed [] = refl
+rows-listed ed (l ∷ sheet) = ap₂ {C = List Row} (λ a b. a ∷ b) (row-listed ed l) (rows-listed ed sheet)
+
+pub listed-is : (ed : Edition) (sheet : List Listing) (limit : ℕ) → listedBook ed sheet ≡ clerkBook ed sheet limit []
+unfolding clerkBook takenOf bookBy phaseAfter tradesBut
+listed-is ed sheet limit = rw (rows-listed ed sheet)
+
+pub book-is-clerks : (ed : Edition) (sheet : List Listing) (limit : ℕ) → NoRepeat (symbolsIn sheet) → (ms : List (List ℕ))
+    → play limit (listedBook ed sheet) ms ≡ clerkBook ed sheet limit ms
+book-is-clerks ed sheet limit d ms = plays ed sheet limit d (listedBook ed sheet) (listed-is ed sheet limit) ms
 
 -- ---- no symbol is on a sheet twice
 

@@ -13,13 +13,14 @@ use lib.ListN.{length, length-append}
 use Rattle.octets.specs.Run.{Bytes, tab}
 use Rattle.answers.specs.Answers.{answerOf}
 use Rattle.answers.specs.Cases.{Case, given, inBook}
+use Rattle.editions.specs.declared.Edition.{Edition}
 use Rattle.lines.specs.Lines.{lineLimit, usedLines}
 use Rattle.rows.specs.declared.Listing.{Listing}
 use Rattle.rows.specs.Rows.{rowLimit, usedRows, sheetIn}
 use Rattle.rows.specs.Changed.{listedRow, ListingFits}
 use Rattle.counters.specs.Counting.{lastNumber, freshCounters}
 use Rattle.show.specs.Showing.{nothingShown}
-use Rattle.book.specs.State.{State, withCounters, Arrival, wantedIn, rowsIn, linesIn, sheetOf, soundIn}
+use Rattle.book.specs.State.{State, withCounters, Arrival, editionOf, wantedIn, rowsIn, linesIn, sheetOf, soundIn}
 use Rattle.book.specs.Calls.{listTable, listAnswer, listed, delivered, shown}
 use Rattle.book.proofs.Demand1.{refused-keeps}
 use Rattle.book.proofs.Touches.{touches-only}
@@ -44,12 +45,13 @@ pub record Stands (R L : ℕ) (b : Book) (s : State) : Type 0 where
 
 -- ---- a fresh book
 
-pub fresh-stands : (s : State) → Stands (length (s .rows)) (length (s .lines)) (listedBook []) (withCounters freshCounters s)
+pub fresh-stands : (ed : Edition) (s : State)
+    → Stands (length (s .rows)) (length (s .lines)) (listedBook ed []) (withCounters (freshCounters ed) s)
 unfolding bookOf usedRows usedLines tab
-fresh-stands s =
+fresh-stands ed s =
     record {
       reads = rw (none-used (rowLimit (length (s .rows))), none-used (lineLimit (length (s .lines))));
-      safe = fresh-sound (length (s .rows)) (length (s .lines));
+      safe = fresh-sound ed (length (s .rows)) (length (s .lines));
       rowRoom = refl;
       lineRoom = refl;
     }
@@ -67,15 +69,17 @@ sheet-listed (l ∷ sheet) = ap {B = List Listing} (λ x. l ∷ x) (sheet-listed
 abbrev pub plus : ℕ → List Listing → Listing → List Listing
 plus limit sheet l = cond (eqb (given (listTable 1 sheet limit l) .number) 0) (sheet ++ (l ∷ [])) sheet
 
-listing-is : (limit : ℕ) (sheet : List Listing) (l : Listing) → listing limit (listedBook sheet) l ≡ listedBook (plus limit sheet l)
+listing-is : (ed : Edition) (limit : ℕ) (sheet : List Listing) (l : Listing)
+    → listing limit (listedBook ed sheet) l ≡ listedBook ed (plus limit sheet l)
 unfolding listing
-listing-is limit sheet l =
-    ap (λ (x : List Listing). cond (eqb (given (listTable 1 x limit l) .number) 0) more (listedBook sheet)) (sheet-listed sheet)
+listing-is ed limit sheet l =
+    ap (λ (x : List Listing). cond (eqb (given (listTable 1 x limit l) .number) 0) more (listedBook ed sheet)) (sheet-listed sheet)
     ∙ go (eqb (given (listTable 1 sheet limit l) .number) 0)
   where
     more : Book
     more =
         record {
+          edition = ed;
           wanted = 1;
           phase = 0;
           rows = map listedRow sheet ++ (listedRow l ∷ []);
@@ -85,7 +89,7 @@ listing-is limit sheet l =
           taken = 0;
         }
 
-    go : (t : Bool) → cond t more (listedBook sheet) ≡ listedBook (cond t (sheet ++ (l ∷ [])) sheet)
+    go : (t : Bool) → cond t more (listedBook ed sheet) ≡ listedBook ed (cond t (sheet ++ (l ∷ [])) sheet)
     go true = rw (map-append listedRow sheet (l ∷ []), length-append sheet (l ∷ []))
     go false = refl
 
@@ -108,15 +112,15 @@ late s l w e = go (soundIn s) e
 
 module _ (R L : ℕ) where
   -- what one listing leaves of a book that is only listed in
-  pub listed-stands : (s : State) (l : Listing) → ListingFits l → (sheet : List Listing) → Stands R L (listedBook sheet) s
-      → Stands R L (listedBook (plus (rowLimit R) sheet l)) (listed s l .state)
-  listed-stands s l f sheet h =
+  pub listed-stands : (ed : Edition) (s : State) (l : Listing) → ListingFits l → (sheet : List Listing) → Stands R L (listedBook ed sheet) s
+      → Stands R L (listedBook ed (plus (rowLimit R) sheet l)) (listed s l .state)
+  listed-stands ed s l f sheet h =
       record {
         reads =
             list-step s (h .safe) l f
             ∙ ap (λ (b : Book). listing (rowLimit (length (s .rows))) b l) (h .reads)
-            ∙ ap (λ (n : ℕ). listing (rowLimit n) (listedBook sheet) l) (h .rowRoom)
-            ∙ listing-is (rowLimit R) sheet l;
+            ∙ ap (λ (n : ℕ). listing (rowLimit n) (listedBook ed sheet) l) (h .rowRoom)
+            ∙ listing-is ed (rowLimit R) sheet l;
         safe = list-sound s (h .safe) l;
         rowRoom = touches-only s .listedLength l ∙ h .rowRoom;
         lineRoom = ap length (touches-only s .listedLines l) ∙ h .lineRoom;
@@ -141,12 +145,16 @@ module _ (R L : ℕ) where
   unfolding bookOf
   wants s b h = ap (λ (x : Book). x .wanted) (h .reads)
 
+  pub reads-by : (s : State) (b : Book) → Stands R L b s → editionOf s ≡ b .edition
+  unfolding bookOf
+  reads-by s b h = ap (λ (x : Book). x .edition) (h .reads)
+
   -- ---- a day's messages
 
-  module _ (day : ℕ → List ℕ) (N : ℕ) (fits : N ≤ lastNumber) where
+  module _ (ed : Edition) (day : ℕ → List ℕ) (N : ℕ) (fits : N ≤ lastNumber) where
     -- the clerk's book after the first j
     abbrev pub clerks : List Listing → ℕ → Book
-    clerks sheet j = clerkBook sheet (lineLimit L) (upto day j)
+    clerks sheet j = clerkBook ed sheet (lineLimit L) (upto day j)
 
     pub clerks-wanted : (sheet : List Listing) (j : ℕ) → clerks sheet j .wanted ≡ suc j
     unfolding clerkBook bookBy
@@ -159,7 +167,7 @@ module _ (R L : ℕ) where
     clerks-at sheet once j a i k c =
         next-at (lineLimit L) (clerks sheet j) a (omega arith) (omega arith) (i ∙ sym (clerks-wanted sheet j))
         ∙ ap (wantedDone (lineLimit L) (clerks sheet j)) (c (omega arith) ∙ ap day i)
-        ∙ clerk-after sheet (lineLimit L) once (upto day j) (day (suc j))
+        ∙ clerk-after ed sheet (lineLimit L) once (upto day j) (day (suc j))
 
     pub clerks-other : (sheet : List Listing) (j : ℕ) (a : Arrival) → eqb (a .number) (suc j) ≡ false
         → next (lineLimit L) (clerks sheet j) a ≡ clerks sheet j
@@ -208,13 +216,13 @@ module _ (R L : ℕ) where
 
     -- from a book that is only listed in: the listings in time are on the sheet, and as many messages are used as come in order from 1
     from-listed : (sheet : List Listing) → NoRepeat (symbolsIn sheet) → (s : State) (qs : List Asked) → AskedIn s qs
-        → Copies day N (arrivalsIn qs) → Stands R L (listedBook sheet) s
+        → Copies day N (arrivalsIn qs) → Stands R L (listedBook ed sheet) s
         → Stands R L (clerks (sheetFrom (rowLimit R) sheet (listingsIn qs)) (got 1 (numbers (arrivalsIn qs)))) (askedAll s qs)
     unfolding askedAll sheetFrom got upto
-    from-listed sheet once s [] f c h = subst (λ (b : Book). Stands R L b s) (listed-is sheet (lineLimit L)) h
+    from-listed sheet once s [] f c h = subst (λ (b : Book). Stands R L b s) (listed-is ed sheet (lineLimit L)) h
     from-listed sheet once s (toList l ∷ qs) f c h =
         from-listed (plus (rowLimit R) sheet l) (sheet-once (rowLimit R) sheet (l ∷ []) once) (listed s l .state) qs (f .1) c
-        (listed-stands s l (f .0) sheet h)
+        (listed-stands ed s l (f .0) sheet h)
     from-listed sheet once s (toDeliver a ∷ qs) f c h =
         go (eqb (a .number) 1) refl (from-listed sheet once (delivered s a .state) qs (f .1) (c .1))
       where
@@ -227,10 +235,10 @@ module _ (R L : ℕ) where
         then : Stands R L (next (lineLimit L) (clerks sheet 0) a) left
         then =
             delivered-stands s a (f .0 .0) (f .0 .1) (clerks sheet 0)
-            (subst (λ (b : Book). Stands R L b s) (listed-is sheet (lineLimit L)) h)
+            (subst (λ (b : Book). Stands R L b s) (listed-is ed sheet (lineLimit L)) h)
 
         go : (t : Bool) → eqb (a .number) 1 ≡ t
-            → (Stands R L (listedBook sheet) left
+            → (Stands R L (listedBook ed sheet) left
             → Stands R L (clerks (sheetFrom (rowLimit R) sheet (listingsIn qs)) (got 1 ks)) (askedAll left qs))
             → let final = sheetFrom (rowLimit R) sheet (cond t [] (listingsIn qs)) in
             Stands R L (clerks final (cond t (suc (got 2 ks)) (got 1 ks))) (askedAll left qs)
@@ -241,7 +249,7 @@ module _ (R L : ℕ) where
             subst (λ (k : ℕ). Stands R L (clerks sheet k) (askedAll left qs)) g
             (used-up sheet once 0 left qs (f .1) (c .1) (subst (λ (b : Book). Stands R L b left) step then))
         go false e same =
-            same (subst (λ (b : Book). Stands R L b left) (clerks-other sheet 0 a e ∙ sym (listed-is sheet (lineLimit L))) then)
+            same (subst (λ (b : Book). Stands R L b left) (clerks-other sheet 0 a e ∙ sym (listed-is ed sheet (lineLimit L))) then)
 
 -- a room for lines that is of bytes stays so: what fits its types fits them as it comes
 asked-in : (s : State) → Bytes (s .lines) → (qs : List Asked) → AskedFit qs → AskedIn s qs
@@ -250,38 +258,40 @@ asked-in s bl (toList l ∷ qs) f = (f .0, asked-in (listed s l .state) (subst B
 asked-in s bl (toDeliver a ∷ qs) f = ((bl, f .0), asked-in (delivered s a .state) (deliver-bytes s a bl (f .0)) qs (f .1))
 
 -- the law: a fresh book in rooms of any contents, asked anything in any order, of copies of the day's messages, 1 to n at most in order
-pub steps-from : (day : ℕ → List ℕ) (N n : ℕ) → N ≤ lastNumber → (rooms : State) (qs : List Asked)
-    → AskedIn (withCounters freshCounters rooms) qs → Copies day N (arrivalsIn qs) → Largest (numbers (arrivalsIn qs)) n
+pub steps-from : (ed : Edition) (day : ℕ → List ℕ) (N n : ℕ) → N ≤ lastNumber → (rooms : State) (qs : List Asked)
+    → AskedIn (withCounters (freshCounters ed) rooms) qs → Copies day N (arrivalsIn qs) → Largest (numbers (arrivalsIn qs)) n
     → let R = length (rooms .rows) in
     let L = length (rooms .lines) in
-    let book = clerkBook (clerkSheet (rowLimit R) (listingsIn qs)) (lineLimit L) (upto day n) in
-    Stands R L book (askedAll (withCounters freshCounters rooms) qs)
-steps-from day N n fits rooms qs f c h =
+    let book = clerkBook ed (clerkSheet (rowLimit R) (listingsIn qs)) (lineLimit L) (upto day n) in
+    Stands R L book (askedAll (withCounters (freshCounters ed) rooms) qs)
+steps-from ed day N n fits rooms qs f c h =
     let R = length (rooms .rows) in
     let L = length (rooms .lines) in
     let ks = numbers (arrivalsIn qs) in
-    let s = withCounters freshCounters rooms in
-    subst (λ (k : ℕ). Stands R L (clerkBook (clerkSheet (rowLimit R) (listingsIn qs)) (lineLimit L) (upto day k)) (askedAll s qs))
+    let s = withCounters (freshCounters ed) rooms in
+    subst (λ (k : ℕ). Stands R L (clerkBook ed (clerkSheet (rowLimit R) (listingsIn qs)) (lineLimit L) (upto day k)) (askedAll s qs))
     (largest-one ks (got 1 ks) n (largest-got ks) h)
-    (from-listed R L day N fits [] tt s qs f c (fresh-stands rooms))
+    (from-listed R L ed day N fits [] tt s qs f c (fresh-stands ed rooms))
 
 -- and of rooms of bytes
-pub steps-are : (day : ℕ → List ℕ) (N n : ℕ) → N ≤ lastNumber → (rooms : State) → Bytes (rooms .lines) → (qs : List Asked) → AskedFit qs
+pub steps-are : (ed : Edition) (day : ℕ → List ℕ) (N n : ℕ) → N ≤ lastNumber → (rooms : State) → Bytes (rooms .lines)
+    → (qs : List Asked) → AskedFit qs
     → Copies day N (arrivalsIn qs) → Largest (numbers (arrivalsIn qs)) n
     → let R = length (rooms .rows) in
     let L = length (rooms .lines) in
-    let book = clerkBook (clerkSheet (rowLimit R) (listingsIn qs)) (lineLimit L) (upto day n) in
-    Stands R L book (askedAll (withCounters freshCounters rooms) qs)
-steps-are day N n fits rooms bl qs f c h =
-    steps-from day N n fits rooms qs (asked-in (withCounters freshCounters rooms) bl qs f) c h
+    let book = clerkBook ed (clerkSheet (rowLimit R) (listingsIn qs)) (lineLimit L) (upto day n) in
+    Stands R L book (askedAll (withCounters (freshCounters ed) rooms) qs)
+steps-are ed day N n fits rooms bl qs f c h =
+    steps-from ed day N n fits rooms qs (asked-in (withCounters (freshCounters ed) rooms) bl qs f) c h
 
 -- ---- what a row's reading tells then
 
-module _ (R L : ℕ) (sheet : List Listing) (room : ℕ) (ms : List (List ℕ)) (s : State) (h : Stands R L (clerkBook sheet room ms) s) where
+module _ (R L : ℕ) (ed : Edition) (sheet : List Listing) (room : ℕ) (ms : List (List ℕ)) (s : State)
+    (h : Stands R L (clerkBook ed sheet room ms) s) where
   abbrev taken : List Taken
-  taken = takenOf sheet room ms
+  taken = takenOf ed sheet room ms
 
-  pub the-rows : rowsIn s ≡ map (rowOf taken) sheet
+  pub the-rows : rowsIn s ≡ map (rowOf ed taken) sheet
   unfolding bookOf clerkBook bookBy
   the-rows = ap (λ (b : Book). b .rows) (h .reads)
 
@@ -291,10 +301,10 @@ module _ (R L : ℕ) (sheet : List Listing) (room : ℕ) (ms : List (List ℕ)) 
 
   -- of a listed symbol what the clerk shows
   pub shown-listed : NoRepeat (symbolsIn sheet) → (x : Listing) → List·Memᴰ x sheet
-      → shown s (x .symbol) ≡ record { answer = answerOf 0; row = shownBy taken x }
-  shown-listed once x m = row-shown s (h .safe) sheet taken the-rows the-lines once x m
+      → shown s (x .symbol) ≡ record { answer = answerOf 0; row = shownBy ed taken x }
+  shown-listed once x m = row-shown s (h .safe) ed sheet taken the-rows the-lines once x m
 
   -- and 7 of any other
   pub shown-missing : (symbol : List ℕ) → isIn symbol (symbolsIn sheet) ≡ false
       → shown s symbol ≡ record { answer = answerOf 7; row = nothingShown }
-  shown-missing symbol e = row-missing s (h .safe) sheet taken the-rows the-lines symbol e
+  shown-missing symbol e = row-missing s (h .safe) ed sheet taken the-rows the-lines symbol e

@@ -15,7 +15,8 @@ use Rattle.octets.specs.Run.{Bytes}
 use Rattle.bounds.proofs.Laws.{up-is}
 use Rattle.answers.specs.Cases.{Case, given, inBook}
 use Rattle.records.specs.Fits.{RecordFits}
-use Rattle.message.specs.Reader.{readOf}
+use Rattle.editions.specs.declared.Edition.{Edition}
+use Rattle.editions.specs.Editions.{reports}
 use Rattle.records.specs.declared.Record.{Record}
 use Rattle.message.proofs.Fitting.{read-fits}
 use Rattle.cells.specs.declared.Found.{Found}
@@ -41,9 +42,9 @@ use Rattle.sound.proofs.Sound.{Within, sound-gives}
 use Rattle.keys.specs.Keys.{kindIn, oldKey}
 use Rattle.table.specs.Table.{isFound, isListed, numberTable}
 use Rattle.table.proofs.Tables.{rows-full, Wanted, number-wanted}
-use Rattle.take.specs.Taking.{madeLine, correctedLine, corrected, linesBy, rowsBy, indexOf}
-use Rattle.book.specs.State.{State, Arrival, wantedIn, rowsIn, sheetOf, linesIn, basisOf, soundIn}
-use Rattle.book.specs.Calls.{listTable, listAnswer, withListing, listed, messageGiven, spent, delivered}
+use Rattle.take.specs.Taking.{madeLine, correctedLine, corrected, linesBy, reportedBy, rowsBy, indexOf}
+use Rattle.book.specs.State.{State, Arrival, editionOf, wantedIn, rowsIn, sheetOf, linesIn, basisOf, soundIn}
+use Rattle.book.specs.Calls.{listTable, listAnswer, withListing, listed, readingIn, messageGiven, spent, delivered}
 use Rattle.book.specs.Calls as Calls
 use Rattle.book.proofs.Demand1.{refused-keeps, answer-content}
 use Rattle.book.proofs.Touches.{touches-only, made-fits, corrected-fits}
@@ -163,7 +164,7 @@ module _ (m : List ℕ) (used n : ℕ) (r : Record) (fits : RecordFits r) (small
 
 -- ---- a taken message: the rows
 
-module _ (m : List ℕ) (used : ℕ) (r : Record) (fits : RecordFits r) where
+module _ (ed : Edition) (m : List ℕ) (used : ℕ) (r : Record) (fits : RecordFits r) where
   abbrev olds : List Row
   olds = usedRows m used
 
@@ -188,22 +189,27 @@ module _ (m : List ℕ) (used : ℕ) (r : Record) (fits : RecordFits r) where
         rows-report w used i (r .consolidated) (fits .consolidated) (rw same below-row) ∙ rw (s, g, set-set)
 
   rows-taken : (eventIn r ≡ false → isListed (r .symbol) (sheetIn olds) ≡ true)
-      → usedRows (rowsBy (kindIn r) m r (indexOf (listingOf (r .symbol) (sheetIn olds)))) used ≡ rowsFor (kindIn r) r olds
-  unfolding rowsBy rowsFor
-  rows-taken h = go (summaryIn r) refl (setsIn r) refl
+      → usedRows (rowsBy ed (kindIn r) m r (indexOf (listingOf (r .symbol) (sheetIn olds)))) used ≡ rowsFor ed (kindIn r) r olds
+  unfolding rowsBy reportedBy rowsFor
+  rows-taken h = by (reports ed) refl
     where
       found : isListed (r .symbol) (sheetIn olds) ≡ true → (i : ℕ) × (listingOf (r .symbol) (sheetIn olds) ≡ At i)
       found e = there (listingOf (r .symbol) (sheetIn olds)) e
 
-      go : (j : Bool) → summaryIn r ≡ j → (t : Bool) → setsIn r ≡ t
-          → usedRows (rowsBy (kindIn r) m r (indexOf (listingOf (r .symbol) (sheetIn olds)))) used ≡ rowsFor (kindIn r) r olds
-      go true j t v =
+      go : reports ed ≡ true → (j : Bool) → summaryIn r ≡ j → (t : Bool) → setsIn r ≡ t
+          → usedRows (rowsBy ed (kindIn r) m r (indexOf (listingOf (r .symbol) (sheetIn olds)))) used ≡ rowsFor ed (kindIn r) r olds
+      go p true j t v =
           let f = found (h (sets-event (kindIn r) (summary-sets (kindIn r) j))) in
-          rw (j, f .1) (row-summed (f .0) (f .1))
-      go false j true t =
+          rw (p, j, f .1) (row-summed (f .0) (f .1))
+      go p false j true t =
           let f = found (h (sets-event (kindIn r) t)) in
-          rw (j, t, f .1) (row-reported (f .0) (f .1))
-      go false j false t = rw (j, t)
+          rw (p, j, t, f .1) (row-reported (f .0) (f .1))
+      go p false j false t = rw (p, j, t)
+
+      by : (b : Bool) → reports ed ≡ b
+          → usedRows (rowsBy ed (kindIn r) m r (indexOf (listingOf (r .symbol) (sheetIn olds)))) used ≡ rowsFor ed (kindIn r) r olds
+      by true p = go p (summaryIn r) refl (setsIn r) refl
+      by false p = rw p
 
 -- ---- a delivery
 
@@ -215,7 +221,7 @@ module _ (s : State) (a : Arrival) (safe : soundIn s ≡ true) where
   b = bookOf s
 
   abbrev r : Record
-  r = readOf (a .message) .found
+  r = readingIn s (a .message) .found
 
   -- not the wanted number; refused, the number used up; taken
   data Ended : Type 0 where
@@ -254,7 +260,7 @@ module _ (s : State) (a : Arrival) (safe : soundIn s ≡ true) where
   used true t e =
       let w = wanted-here e in
       let z = eqb-true (content limit b (a .message)) 0 t in
-      took (omega (arith, w .wanted, w .greatest)) (passed (basisOf s) (readOf (a .message)) z) (accepted w z) (after-is e ∙ rw t)
+      took (omega (arith, w .wanted, w .greatest)) (passed (basisOf s) (readingIn s (a .message)) z) (accepted w z) (after-is e ∙ rw t)
   used false t e =
       let w = wanted-here e in
       over (omega (arith, w .wanted, w .greatest)) (refused w (eqb-false (content limit b (a .message)) 0 t)) (after-is e ∙ rw t)
@@ -297,16 +303,16 @@ module _ (s : State) (safe : soundIn s ≡ true) where
   spent-is = rw (up-is (wantedIn s) (omega (arith, small .wanted)))
 
   -- a taken message: rows, lines and counters move together
-  took-step : (m : List ℕ) → Bytes (s .lines) → Bytes m → wantedIn s ≤ lastNumber → Passed (basisOf s) (readOf m .found)
-      → bookOf (Calls.taking s (readOf m .found)) ≡ takenInto (readOf m .found) (bookOf s)
+  took-step : (m : List ℕ) → Bytes (s .lines) → Bytes m → wantedIn s ≤ lastNumber → Passed (basisOf s) (readingIn s m .found)
+      → bookOf (Calls.taking s (readingIn s m .found)) ≡ takenInto (readingIn s m .found) (bookOf s)
   unfolding bookOf takenInto
   took-step m bl bm f p =
-      let r = readOf m .found in
-      let fits = read-fits m bm in
+      let r = readingIn s m .found in
+      let fits = read-fits (editionOf s) m bm in
       let l
       = lines-taken (s .lines) (s .counters .lines) (wantedIn s) r fits (omega (arith, f)) bl (bounds .linesFit) (p .hasRoom)
       (p .isBorne) in
-      let o = rows-taken (s .rows) (s .counters .rows) r fits (p .onSheet) in
+      let o = rows-taken (editionOf s) (s .rows) (s .counters .rows) r fits (p .onSheet) in
       rw (taken-is (s .counters) small r, l, o)
 
   pub deliver-step : (a : Arrival) → Bytes (s .lines) → Bytes (a .message)
@@ -346,6 +352,7 @@ module _ (s : State) (safe : soundIn s ≡ true) where
         more : Book
         more =
             record {
+              edition = editionOf s;
               wanted = wantedIn s;
               phase = s .counters .phase;
               rows = rowsIn s ++ (listedRow l ∷ []);
@@ -373,9 +380,9 @@ within-sound c rows lines w =
       le-leb _ _ (w .takenFit),
     )
 
-pub fresh-sound : (rows lines : ℕ) → sound freshCounters rows lines ≡ true
-fresh-sound rows lines =
-    within-sound freshCounters rows lines
+pub fresh-sound : (ed : Edition) (rows lines : ℕ) → sound (freshCounters ed) rows lines ≡ true
+fresh-sound ed rows lines =
+    within-sound (freshCounters ed) rows lines
     (record {
       least = omega arith;
       greatest = omega arith;
@@ -445,8 +452,8 @@ module _ (s : State) (safe : soundIn s ≡ true) where
       go (over f e q) = ap (λ (t : State). sound (t .counters) R L) e ∙ used-sound f
       go (took f p e q) =
           ap (λ (t : State). sound (t .counters) R L) e
-          ∙ ap (λ (c : Counters). sound c R L) (taken-is (s .counters) (small s safe) (readOf (a .message) .found))
-          ∙ moved-sound (readOf (a .message) .found) f (p .hasRoom)
+          ∙ ap (λ (c : Counters). sound c R L) (taken-is (s .counters) (small s safe) (readingIn s (a .message) .found))
+          ∙ moved-sound (readingIn s (a .message) .found) f (p .hasRoom)
 
   pub list-sound : (l : Listing) → soundIn (listed s l .state) ≡ true
   unfolding listed

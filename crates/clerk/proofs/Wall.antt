@@ -13,6 +13,7 @@ use Rattle.answers.specs.Cases.{says, done, given, inBook}
 use Rattle.answers.specs.declared.Answer.{Answer}
 use Rattle.cells.specs.declared.Found.{Found}
 use Rattle.cells.specs.declared.Found.the-variants.{Nothing, At}
+use Rattle.editions.specs.declared.Edition.{Edition}
 use Rattle.lines.specs.declared.Line.{Line}
 use Rattle.rows.specs.declared.Listing.{Listing}
 use Rattle.rows.specs.declared.Row.{Row}
@@ -60,38 +61,38 @@ on-sheet sheet l m = go (isIn (l .symbol) (symbolsIn sheet)) refl
     go false t = absurd (true≢false (sym (same-refl (l .symbol)) ∙ other-symbol (l .symbol) sheet l t m))
 
 -- the first row of a listed symbol is its own
-found-row : (es : List Taken) (sheet : List Listing) (l : Listing) → NoRepeat (symbolsIn sheet) → List·Memᴰ l sheet
-    → foundRow (map (rowOf es) sheet) (listingOf (l .symbol) sheet) ≡ rowOf es l
-found-row es [] l d m = absurd (List·Memᴰ·not-nil m)
-found-row es (x ∷ sheet) l d m =
+found-row : (ed : Edition) (es : List Taken) (sheet : List Listing) (l : Listing) → NoRepeat (symbolsIn sheet) → List·Memᴰ l sheet
+    → foundRow (map (rowOf ed es) sheet) (listingOf (l .symbol) sheet) ≡ rowOf ed es l
+found-row ed es [] l d m = absurd (List·Memᴰ·not-nil m)
+found-row ed es (x ∷ sheet) l d m =
     ⊎-elim (λ (q : l ≡ x). here q)
-    (λ (t : List·Memᴰ l sheet). there t (found-row es sheet l (d .1) t))
+    (λ (t : List·Memᴰ l sheet). there t (found-row ed es sheet l (d .1) t))
     (List·Memᴰ·cases-cons m)
   where
     ws : List Row
-    ws = map (rowOf es) sheet
+    ws = map (rowOf ed es) sheet
 
-    here : l ≡ x → foundRow (rowOf es x ∷ ws) (listingOf (l .symbol) (x ∷ sheet)) ≡ rowOf es l
+    here : l ≡ x → foundRow (rowOf ed es x ∷ ws) (listingOf (l .symbol) (x ∷ sheet)) ≡ rowOf ed es l
     here q =
         let e : same (x .symbol) (l .symbol) ≡ true = ap (λ (y : Listing). same (y .symbol) (l .symbol)) (sym q) ∙ same-refl (l .symbol) in
-        ap (foundRow (rowOf es x ∷ ws)) (first-hit (isOf (l .symbol)) x sheet e) ∙ ap (rowOf es) (sym q)
+        ap (foundRow (rowOf ed es x ∷ ws)) (first-hit (isOf (l .symbol)) x sheet e) ∙ ap (rowOf ed es) (sym q)
 
-    there : List·Memᴰ l sheet → foundRow ws (listingOf (l .symbol) sheet) ≡ rowOf es l
-        → foundRow (rowOf es x ∷ ws) (listingOf (l .symbol) (x ∷ sheet)) ≡ rowOf es l
+    there : List·Memᴰ l sheet → foundRow ws (listingOf (l .symbol) sheet) ≡ rowOf ed es l
+        → foundRow (rowOf ed es x ∷ ws) (listingOf (l .symbol) (x ∷ sheet)) ≡ rowOf ed es l
     there t i =
         let e : same (x .symbol) (l .symbol) ≡ false = same-comm (x .symbol) (l .symbol) ∙ other-symbol (x .symbol) sheet l (d .0) t in
-        ap (foundRow (rowOf es x ∷ ws)) (first-miss (isOf (l .symbol)) x sheet e)
-        ∙ found-up (rowOf es x) ws (listingOf (l .symbol) sheet) ∙ i
+        ap (foundRow (rowOf ed es x ∷ ws)) (first-miss (isOf (l .symbol)) x sheet e)
+        ∙ found-up (rowOf ed es x) ws (listingOf (l .symbol) sheet) ∙ i
 
 -- ---- what is told
 
 shown-is : (s : Shown) (a : Answer) (w : RowShown) → s .answer ≡ a → s .row ≡ w → s ≡ record { answer = a; row = w }
 shown-is s a w e f = sym (rw (← e, ← f))
 
-module _ (s : State) (safe : soundIn s ≡ true) (sheet : List Listing) (es : List Taken)
-    (theRows : rowsIn s ≡ map (rowOf es) sheet) (theLines : linesIn s ≡ tradesOf es) where
+module _ (s : State) (safe : soundIn s ≡ true) (ed : Edition) (sheet : List Listing) (es : List Taken)
+    (theRows : rowsIn s ≡ map (rowOf ed es) sheet) (theLines : linesIn s ≡ tradesOf es) where
   the-sheet : sheetOf s ≡ sheet
-  the-sheet = ap sheetIn theRows ∙ sheet-is es sheet
+  the-sheet = ap sheetIn theRows ∙ sheet-is ed es sheet
 
   answer-is : (symbol : List ℕ) (t : Bool) → isIn symbol (symbolsIn sheet) ≡ t → rowAnswer s symbol ≡ cond t 0 7
   unfolding rowAnswer
@@ -106,24 +107,24 @@ module _ (s : State) (safe : soundIn s ≡ true) (sheet : List Listing) (es : Li
       go false false q = refl
 
   pub row-shown : NoRepeat (symbolsIn sheet) → (l : Listing) → List·Memᴰ l sheet
-      → shown s (l .symbol) ≡ record { answer = answerOf 0; row = shownBy es l }
+      → shown s (l .symbol) ≡ record { answer = answerOf 0; row = shownBy ed es l }
   unfolding shown
   row-shown d l m =
       let z : rowAnswer s (l .symbol) ≡ 0 = answer-is (l .symbol) true (on-sheet sheet l m) in
       let q = row-reads s (l .symbol) z in
-      shown-is (shown s (l .symbol)) (answerOf 0) (shownBy es l) (ap answerOf z) (q .reads ∙ same-row q)
+      shown-is (shown s (l .symbol)) (answerOf 0) (shownBy ed es l) (ap answerOf z) (q .reads ∙ same-row q)
     where
-      same-row : (q : RowReads s (l .symbol)) → shownOf (q .row) (q .figures) ≡ shownBy es l
+      same-row : (q : RowReads s (l .symbol)) → shownOf (q .row) (q .figures) ≡ shownBy ed es l
       same-row q =
-          let w : q .row ≡ rowOf es l
+          let w : q .row ≡ rowOf ed es l
           = q .first .2
           ∙ ap (foundRow (rowsIn s)) (sym (q .first .1))
           ∙ ap (λ (x : List Listing). foundRow (rowsIn s) (listingOf (l .symbol) x)) the-sheet
           ∙ ap (λ (x : List Row). foundRow x (listingOf (l .symbol) sheet)) theRows
-          ∙ found-row es sheet l d m in
+          ∙ found-row ed es sheet l d m in
           let a : Are (l .symbol) (tradesOf es) (q .figures)
           = subst (λ (x : List Line). Are (l .symbol) x (q .figures)) theLines (q .mean) in
-          ap (λ (x : Row). shownOf x (q .figures)) w ∙ sym (clerk-figures-one es l (q .figures) a)
+          ap (λ (x : Row). shownOf x (q .figures)) w ∙ sym (clerk-figures-one ed es l (q .figures) a)
 
   pub row-missing : (symbol : List ℕ) → isIn symbol (symbolsIn sheet) ≡ false
       → shown s symbol ≡ record { answer = answerOf 7; row = nothingShown }

@@ -8,6 +8,7 @@ use mathlib.Core.Bool.{true, false, cond}
 use lib.Dec.{eqb}
 use Rattle.answers.specs.Answers.{answerOf}
 use Rattle.answers.specs.declared.Answer.{Answer}
+use Rattle.editions.specs.declared.Edition.{Edition}
 use Rattle.message.specs.Reader.{readOf}
 use Rattle.lines.specs.declared.Line.{Line}
 use Rattle.rows.specs.declared.Listing.{Listing}
@@ -28,9 +29,9 @@ unfoldable pub namedIn : List Taken → List (List ℕ)
 namedIn [] = []
 namedIn (e ∷ es) = names (e .message) ++ namedIn es
 
--- the key that a message with that answer named: of an X or a C that was answered 0
-abbrev pub namesDone : List ℕ → ℕ → List (List ℕ)
-namesDone m answer = cond (eqb answer 0) (names (readOf m .found)) []
+-- the key that a message of an edition with that answer named: of an X or a C that was answered 0
+abbrev pub namesDone : Edition → List ℕ → ℕ → List (List ℕ)
+namesDone ed m answer = cond (eqb answer 0) (names (readOf ed m .found)) []
 
 -- a T or a C among the taken messages made the line, and no later X or C named it. Taken messages have the newest first
 pub record MadeLive (es : List Taken) (l : Line) : Type 0 where
@@ -49,12 +50,12 @@ pub record Used : Type 0 where
   pub answer : Answer
 
 -- the n messages after the first j, each answered as the clerk answers it, who knows those before it
-unfoldable pub usedAfter : (ℕ → List ℕ) → List Listing → ℕ → ℕ → ℕ → List Used
-usedAfter day sheet limit j zero = []
-usedAfter day sheet limit j (suc n) =
+unfoldable pub usedAfter : Edition → (ℕ → List ℕ) → List Listing → ℕ → ℕ → ℕ → List Used
+usedAfter ed day sheet limit j zero = []
+usedAfter ed day sheet limit j (suc n) =
     record {
       number = suc j;
       message = day (suc j);
-      answer = answerOf (answerTo sheet limit (takenOf sheet limit (upto day j)) (day (suc j)));
+      answer = answerOf (answerTo ed sheet limit (takenOf ed sheet limit (upto day j)) (day (suc j)));
     }
-    ∷ usedAfter day sheet limit (suc j) n
+    ∷ usedAfter ed day sheet limit (suc j) n

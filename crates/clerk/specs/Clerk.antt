@@ -1,5 +1,5 @@
--- The clerk. He works from the sheet, the room and the used messages alone, and reads no stored figure and no lent byte. A list of
--- used messages, and a list of taken ones, has the newest first.
+-- The clerk. He works from the edition, the sheet, the room and the used messages alone, and reads no stored figure and no lent byte. A
+-- list of used messages, and a list of taken ones, has the newest first.
 -- Assumes nothing.
 use Prim.Native.Nat.{ℕ, suc}
 use mathlib.Core.List.{List, [], _∷_, _++_, map}
@@ -7,6 +7,9 @@ use mathlib.Core.Bool.{Bool, false, cond, not, _&&_, _||_}
 use lib.Dec.{eqb}
 use lib.ListN.{length}
 use Rattle.octets.specs.Run.{same}
+use Rattle.editions.specs.declared.Edition.{Edition}
+use Rattle.editions.specs.Editions.{reports}
+use Rattle.message.specs.declared.Reading.{Reading}
 use Rattle.message.specs.Reader.{readOf}
 use Rattle.records.specs.declared.Record.{Record}
 use Rattle.lines.specs.declared.Line.{Line}
@@ -105,20 +108,24 @@ tradesOf es = tradesBut [] es
 
 -- ---- which messages are taken
 
+-- he reads a message by the edition that the book was started for
+abbrev pub clerkReading : Edition → List ℕ → Reading
+clerkReading ed m = readOf ed m
+
 -- what the table gives for a message, worked from the sheet, the room and the taken messages before it; `limit` is how many lines the
 -- room has
 abbrev pub basisAfter : List Listing → ℕ → List Taken → Basis
 basisAfter sheet limit es = record { phase = phaseAfter es; sheet = sheet; ledger = searched (tradesOf es) limit }
 
-abbrev pub answerTo : List Listing → ℕ → List Taken → List ℕ → ℕ
-answerTo sheet limit es m = given (contentTable (basisAfter sheet limit es) (readOf m)) .number
+abbrev pub answerTo : Edition → List Listing → ℕ → List Taken → List ℕ → ℕ
+answerTo ed sheet limit es m = given (contentTable (basisAfter sheet limit es) (clerkReading ed m)) .number
 
 -- a message is taken if that is 0; `limit` is of lines here too
-unfoldable pub takenOf : List Listing → ℕ → List (List ℕ) → List Taken
-takenOf sheet limit [] = []
-takenOf sheet limit (m ∷ ms) =
-    let es = takenOf sheet limit ms in
-    cond (eqb (answerTo sheet limit es m) 0) (record { number = suc (length ms); message = readOf m .found } ∷ es) es
+unfoldable pub takenOf : Edition → List Listing → ℕ → List (List ℕ) → List Taken
+takenOf ed sheet limit [] = []
+takenOf ed sheet limit (m ∷ ms) =
+    let es = takenOf ed sheet limit ms in
+    cond (eqb (answerTo ed sheet limit es m) 0) (record { number = suc (length ms); message = clerkReading ed m .found } ∷ es) es
 
 -- ---- rows
 
@@ -134,21 +141,29 @@ reportedOf [] symbol = NotSet
 reportedOf (e ∷ es) symbol =
     cond (setsIn (e .message) && same symbol (e .message .symbol)) (Volume (e .message .consolidated)) (reportedOf es symbol)
 
-unfoldable pub rowOf : List Taken → Listing → Row
-rowOf es l = record { listing = l; summary = summaryOf es (l .symbol); reported = reportedOf es (l .symbol) }
+-- the taken messages that a row's report and summary come from: all of them where the edition's messages report a volume, else none: an
+-- edition that reports no volume has no summary either, so nothing of these messages reaches a row
+abbrev pub reportsIn : Edition → List Taken → List Taken
+reportsIn ed es = cond (reports ed) es []
+
+unfoldable pub rowOf : Edition → List Taken → Listing → Row
+rowOf ed es l =
+    let told = reportsIn ed es in
+    record { listing = l; summary = summaryOf told (l .symbol); reported = reportedOf told (l .symbol) }
 
 -- what he shows of a listed symbol
-unfoldable pub shownBy : List Taken → Listing → RowShown
-shownBy es l = shownOf (rowOf es l) (figuresOf (l .symbol) (tradesOf es))
+unfoldable pub shownBy : Edition → List Taken → Listing → RowShown
+shownBy ed es l = shownOf (rowOf ed es l) (figuresOf (l .symbol) (tradesOf es))
 
 -- ---- his book
 
-unfoldable pub bookBy : List Listing → List Taken → ℕ → Book
-bookBy sheet es n =
+unfoldable pub bookBy : Edition → List Listing → List Taken → ℕ → Book
+bookBy ed sheet es n =
     record {
+      edition = ed;
       wanted = suc n;
       phase = phaseAfter es;
-      rows = map (rowOf es) sheet;
+      rows = map (rowOf ed es) sheet;
       lines = tradesOf es;
       listed = length sheet;
       used = length (tradesOf es);
@@ -156,5 +171,5 @@ bookBy sheet es n =
     }
 
 -- after these used messages, in a room for `limit` lines
-unfoldable pub clerkBook : List Listing → ℕ → List (List ℕ) → Book
-clerkBook sheet limit ms = bookBy sheet (takenOf sheet limit ms) (length ms)
+unfoldable pub clerkBook : Edition → List Listing → ℕ → List (List ℕ) → Book
+clerkBook ed sheet limit ms = bookBy ed sheet (takenOf ed sheet limit ms) (length ms)

@@ -20,7 +20,7 @@ correctionIn r = isCorrection (kindIn r)
 abbrev pub summaryIn : Record → Bool
 summaryIn r = isSummary (kindIn r)
 
--- T, X, C and J set the reported volume
+-- T, X, C and J set the reported volume, where the edition reports one
 abbrev pub setsIn : Record → Bool
 setsIn r = setsVolume (kindIn r)
 

@@ -6,6 +6,8 @@ use mathlib.Core.Bool.{cond}
 use lib.Dec.{eqb}
 use lib.ListN.{getD, set}
 use Rattle.answers.specs.Cases.{given}
+use Rattle.editions.specs.declared.Edition.{Edition}
+use Rattle.editions.specs.Editions.{reports}
 use Rattle.message.specs.Reader.{readOf}
 use Rattle.records.specs.declared.Record.{Record}
 use Rattle.cells.specs.declared.Found.{Found}
@@ -23,12 +25,13 @@ use Rattle.phases.specs.Phases.{phaseOf}
 use Rattle.keys.specs.Keys.{kindIn, oldKey}
 use Rattle.table.specs.Table.{Basis, searched, numberTable, contentTable}
 use Rattle.take.specs.Taking.{madeLine, correctedLine}
-use Rattle.book.specs.State.{State, Arrival, rowsIn, linesIn}
+use Rattle.book.specs.State.{State, Arrival, editionOf, rowsIn, linesIn}
 use Rattle.book.specs.Calls.{listTable}
 use Rattle.clerk.specs.Messages.{eventIn, makesIn}
 
--- rows and used lines in the order added, the wanted number, the phase, and the counts: rows used, lines used, messages taken
+-- the edition, rows and used lines in the order added, the wanted number, the phase, and the counts: rows used, lines used, messages taken
 pub record Book : Type 0 where
+  pub edition : Edition
   pub wanted : ℕ
   pub phase : ℕ
   pub rows : List Row
@@ -40,6 +43,7 @@ pub record Book : Type 0 where
 unfoldable pub bookOf : State → Book
 bookOf s =
     record {
+      edition = editionOf s;
       wanted = s .counters .wanted;
       phase = s .counters .phase;
       rows = rowsIn s;
@@ -88,20 +92,23 @@ changeFound change rs (At i) = set rs i (change (getD rs i noRow))
 abbrev pub inItsRow : (Row → Row) → Record → List Row → List Row
 inItsRow change r rs = changeFound change rs (listingOf (r .symbol) (sheetIn rs))
 
--- the rows after a message of a type
-unfoldable pub rowsFor : Kind → Record → List Row → List Row
-rowsFor kind r rs =
+-- the rows after a message of a type; where the edition's messages report no consolidated volume, they stay
+unfoldable pub rowsFor : Edition → Kind → Record → List Row → List Row
+rowsFor ed kind r rs =
+    cond (reports ed)
     -- J
-    cond (isSummary kind) (inItsRow (summing r) r rs)
+    (cond (isSummary kind) (inItsRow (summing r) r rs)
     -- T, X and C
-    (cond (setsVolume kind) (inItsRow (keeping r) r rs) rs)
+    (cond (setsVolume kind) (inItsRow (keeping r) r rs) rs))
+    rs
 
 unfoldable pub takenInto : Record → Book → Book
 takenInto r b =
     record {
+      edition = b .edition;
       wanted = b .wanted + 1;
       phase = cond (eventIn r) (phaseOf (r .event)) (b .phase);
-      rows = rowsFor (kindIn r) r (b .rows);
+      rows = rowsFor (b .edition) (kindIn r) r (b .rows);
       lines = linesFor (kindIn r) (b .wanted) r (b .lines);
       listed = b .listed;
       used = cond (makesIn r) (b .used + 1) (b .used);
@@ -114,6 +121,7 @@ takenInto r b =
 unfoldable pub usingUp : Book → Book
 usingUp b =
     record {
+      edition = b .edition;
       wanted = b .wanted + 1;
       phase = b .phase;
       rows = b .rows;
@@ -129,11 +137,11 @@ basisBy limit b = record { phase = b .phase; sheet = sheetIn (b .rows); ledger =
 
 -- 4 to 12 or 0
 unfoldable pub content : ℕ → Book → List ℕ → ℕ
-content limit b m = given (contentTable (basisBy limit b) (readOf m)) .number
+content limit b m = given (contentTable (basisBy limit b) (readOf (b .edition) m)) .number
 
 -- the wanted message: taken, or its number used up
 unfoldable pub wantedDone : ℕ → Book → List ℕ → Book
-wantedDone limit b m = cond (eqb (content limit b m) 0) (takenInto (readOf m .found) b) (usingUp b)
+wantedDone limit b m = cond (eqb (content limit b m) 0) (takenInto (readOf (b .edition) m .found) b) (usingUp b)
 
 -- a message under any number
 unfoldable pub next : ℕ → Book → Arrival → Book
@@ -147,6 +155,7 @@ unfoldable pub listing : ℕ → Book → Listing → Book
 listing limit b l =
     cond (eqb (listAnswerBy limit b l) 0)
     (record {
+      edition = b .edition;
       wanted = b .wanted;
       phase = b .phase;
       rows = b .rows ++ (listedRow l ∷ []);

@@ -2,6 +2,7 @@
 -- Assumes nothing.
 use mathlib.Core.Path.{_≡_, sym, _∙_}
 use Prim.Native.Nat.{ℕ}
+use Rattle.editions.specs.declared.Edition.{Edition}
 use Rattle.kinds.specs.declared.Kind.{Kind}
 use Rattle.counters.specs.declared.Counters.{Counters}
 use Rattle.counters.proofs.fresh.Reads as fresh-reads
@@ -12,8 +13,9 @@ use Rattle.counters.proofs.Counters.add_row.Reads as add-row-reads
 use Rattle.counters.proofs.Counters.add_line.Reads as add-line-reads
 use Rattle.counters.proofs.Counters.take.Reads as take-reads
 
-pub fresh-one : (r r′ : Counters) → fresh-reads.Learnt tt tt r tt → fresh-reads.Learnt tt tt r′ tt → r ≡ r′
-fresh-one r r′ h h′ = h ∙ sym h′
+pub fresh-one : (e e₁ e₂ : Edition) (r r′ : Counters)
+    → fresh-reads.Learnt tt (e, tt) r (e₁, tt) → fresh-reads.Learnt tt (e, tt) r′ (e₂, tt) → r ≡ r′
+fresh-one e e₁ e₂ r r′ h h′ = h ∙ sym h′
 
 module _ (c c₁ c₂ : Counters) (r r′ : Counters) where
   pub use-up-one : use-up-reads.Learnt tt (c, tt) r (c₁, tt) → use-up-reads.Learnt tt (c, tt) r′ (c₂, tt) → r ≡ r′

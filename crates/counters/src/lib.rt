@@ -1,6 +1,7 @@
 // The counters of a book: what moves together as one value. Each move returns the new value; whatever counters
 // arrive, it is total.
 use bounds::up;
+use editions::Edition;
 use kinds::Kind;
 use kinds::is_event;
 use kinds::makes_new;
@@ -8,9 +9,16 @@ use phases::phase_of;
 ghost use mathlib.Core.Path.{_≡_};
 ghost use Rattle.counters.specs.Counting as Counting;
 
-// The wanted number, the phase, and the counts: rows used, lines used, messages taken. The phase is 0 before any
-// event was taken, then 1 to 6 for O S Q M E C.
+// What a book is started with. No move changes it.
+pub struct Start {
+    // The edition whose layouts the book reads its messages by.
+    pub edition: Edition,
+}
+
+// What the book was started with, the wanted number, the phase, and the counts: rows used, lines used, messages taken.
+// The phase is 0 before any event was taken, then 1 to 6 for O S Q M E C.
 pub struct Counters {
+    pub start: Start,
     pub wanted: u64,
     pub phase: u64,
     pub rows: usize,
@@ -21,11 +29,12 @@ pub struct Counters {
 // The greatest number that a message may bear.
 pub const LAST_NUMBER: u64 = 4294967295;
 
-// What a book starts from.
-pub fn fresh() -> Counters
-    ensures { λ c. ⌜ c ≡ Counting.freshCounters ⌝ }
+// What a book of an edition starts from.
+pub fn fresh(edition: Edition) -> Counters
+    ensures { λ c. ⌜ c ≡ Counting.freshCounters edition ⌝ }
 {
     Counters {
+        start: Start { edition: edition },
         wanted: 1,
         phase: 0,
         rows: 0,

@@ -2,6 +2,7 @@
 use crate::rooms;
 use book::Said;
 use counters::Counters;
+use editions::Edition;
 use figures::Price;
 use libc::STDOUT_FILENO;
 use numbers::number4;
@@ -47,17 +48,17 @@ pub fn least(n: usize, s: &[u8]) -> usize
 
 // The writer by itself: an event at 1,000 ms.
 pub fn write(space: &mut [u8], code: &[u8]) {
-    let sound = message::read(b"\x00\x00\x03\xe8SO");
+    let sound = message::read(Edition::NlsPlus, b"\x00\x00\x03\xe8SO");
     let mut r = sound.found;
     r.event = single::byte(code, 1);
-    let a = message::write(r, space);
+    let a = message::write(Edition::NlsPlus, r, space);
     telling::marked(b':', answers::number(a) as u64);
     telling::marked(b';', rooms::sum(space));
 }
 
 // The reader by itself.
 pub fn read(space: &[u8]) {
-    let said = message::read(space);
+    let said = message::read(Edition::NlsPlus, space);
     let a = said.answer;
     telling::marked(b':', answers::number(a) as u64);
     telling::words(b"\n");

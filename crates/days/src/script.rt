@@ -1,6 +1,6 @@
 // A script's lines, one after the other. What stands before a bar is told as it is. Then comes a letter; the numbers
 // after it stand in brackets, as `form` says:
-// B starts a fresh book: {bytes for rows}{bytes for lines}, a byte that fills both;
+// B starts a fresh book of NLS Plus: {bytes for rows}{bytes for lines}, a byte that fills both;
 // K sets its counters: {wanted}{phase}{rows}{lines}{taken}; r and l store bytes in a room: {place}bytes;
 // L lists: symbol<close>; R reads a row: symbol; D delivers: {number}message; N tells the book as it is;
 // W writes an event into the rows' room, M reads that room as a message;
@@ -11,6 +11,7 @@ use crate::form::Pen;
 use crate::play;
 use crate::rooms;
 use counters::Counters;
+use editions::Edition;
 use numbers::number8;
 use octets::run;
 
@@ -24,7 +25,7 @@ struct Day {
 // Signs gather in the space until their line ends.
 pub fn play(text: &[u8], rows: &mut [u8], lines: &mut [u8], space: &mut [u8]) {
     let mut day = Day {
-        counters: book::fresh(),
+        counters: book::fresh(Edition::NlsPlus),
         rows: 0,
         lines: 0,
     };
@@ -73,7 +74,7 @@ fn opened(rows: &mut [u8], lines: &mut [u8], code: &[u8]) -> Day {
     run::fill(&mut rows[..r], &blank, 0);
     run::fill(&mut lines[..l], &blank, 0);
     Day {
-        counters: book::fresh(),
+        counters: book::fresh(Edition::NlsPlus),
         rows: r,
         lines: l,
     }
@@ -104,7 +105,7 @@ fn call(c: Counters, rows: &mut [u8], lines: &mut [u8], code: &[u8]) -> Counters
 }
 
 fn counters(code: &[u8]) -> Counters {
-    let mut c = book::fresh();
+    let mut c = book::fresh(Edition::NlsPlus);
     c.wanted = number8(code, 1);
     c.phase = number8(code, 9);
     c.rows = number8(code, 17) as usize;

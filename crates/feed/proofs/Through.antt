@@ -7,6 +7,7 @@ use mathlib.Core.List.{List, [], _++_}
 use lib.ListN.{take}
 use Rattle.octets.specs.Run.{Bytes}
 use Rattle.octets.proofs.Bytes.{none-bytes, append-bytes}
+use Rattle.editions.specs.declared.Edition.the-variants.{NlsPlus}
 use Rattle.counters.specs.Counting.{freshCounters}
 use Rattle.book.specs.State.{State, withCounters}
 use Rattle.tape.specs.Playing.{Holding, begun, held, feed}
@@ -37,13 +38,13 @@ stands-with : {h h′ : Holding} {s s′ : Standing} → h ≡ h′ → s ≡ s�
 stands-with {h} {h′} {s} {s′} e f w = subst (λ (x : Standing). StandsAt h′ x) f (subst (λ (x : Holding). StandsAt x s) e w)
 
 pub read-so : {rooms : State} {tape : List ℕ} {s : Standing} → ReadSo rooms tape s
-    → StandsAt (held (withCounters freshCounters rooms) tape) s
+    → StandsAt (held (withCounters (freshCounters NlsPlus) rooms) tape) s
 read-so {rooms} (at-first r piece h) =
-    stands-with (begun-is (withCounters freshCounters rooms))
+    stands-with (begun-is (withCounters (freshCounters NlsPlus) rooms))
     (ap (λ (x : Reading). standing x (withCounters (x .counters) rooms) piece) (sym h))
     (record { state = refl; held = refl; at = refl; stop = refl; front = refl })
 read-so {rooms} (one-piece {tape} {s} t κs a r x new e f g h) =
-    let fresh = withCounters freshCounters rooms in
+    let fresh = withCounters (freshCounters NlsPlus) rooms in
     let w = read-so t in
     let q = goes-on (held fresh tape) new (goFrom κs a .at) (goCount κs a) (goFrom κs a .piece)
     (g ∙ ap (λ (l : List ℕ). l ++ new) (w .front)) (f ∙ w .at) in

@@ -5,6 +5,7 @@ use mathlib.Core.List.{List}
 use lib.ListN.{length, take}
 use mathlib.Core.Path.{_≡_}
 use Rattle.octets.specs.Run.{Bytes}
+use Rattle.editions.specs.declared.Edition.the-variants.{NlsPlus}
 use Rattle.counters.specs.Counting.{freshCounters}
 use Rattle.book.specs.State.{State}
 use Rattle.tape.specs.declared.Stop.{Stop}
@@ -19,7 +20,7 @@ wrapped n = n % 2 ^ 64
 
 -- a fresh book, nothing held, at the tape's first byte
 abbrev pub nothingRead : Reading
-nothingRead = record { counters = freshCounters; held = 0; at = 0; stop = Ended }
+nothingRead = record { counters = freshCounters NlsPlus; held = 0; at = 0; stop = Ended }
 
 -- how a reading stands: the state, how many bytes are held at the front of the piece, the offset of the first byte that is not played,
 -- why the play stands there, and the piece

@@ -1,5 +1,6 @@
 // A tape that is being read: the book so far, and how the next piece goes on with it.
 use counters::Counters;
+use editions::Edition;
 use tape::Stop;
 ghost use mathlib.Core.Path.{_≡_};
 ghost use Rattle.book.specs.State.{lent};
@@ -14,12 +15,12 @@ pub struct Reading {
     pub stop: Stop,
 }
 
-// A fresh book and a tape of which nothing is read.
+// A fresh book of NLS Plus, which is what a tape brings, and a tape of which nothing is read.
 pub fn begin() -> Reading
     ensures { λ r. ⌜ r ≡ nothingRead ⌝ }
 {
     Reading {
-        counters: book::fresh(),
+        counters: book::fresh(Edition::NlsPlus),
         held: 0,
         at: 0,
         stop: Stop::Ended,

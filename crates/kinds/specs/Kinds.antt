@@ -38,7 +38,7 @@ kindOf letter = kindAmong allKinds letter
 -- ---- the traits of each type: all that is asked of a type but its letter and its layout
 
 -- S is an event; X and C name an original; T and C make a new line; T, X, C and J set the reported consolidated volume of their
--- symbol's row; J is the summary
+-- symbol's row, where the edition reports one; J is the summary
 abbrev pub traitsOf : Kind → Traits
 traitsOf Event = record { event = true; names = false; makes = false; sets = false; summary = false }
 traitsOf Trade = record { event = false; names = false; makes = true; sets = true; summary = false }

@@ -66,7 +66,7 @@ pub struct Traits {
     pub names: bool,
     // It makes a new line.
     pub makes: bool,
-    // It sets the reported consolidated volume of its symbol's row.
+    // It sets the reported consolidated volume of its symbol's row, where the edition reports one.
     pub sets: bool,
     // It is the summary.
     pub summary: bool,
@@ -157,7 +157,7 @@ pub fn makes_new(kind: Kind) -> bool
     traits_of(kind).makes
 }
 
-// Whether it sets the reported volume: T, X, C and J do.
+// Whether it sets the reported volume where the edition reports one: T, X, C and J do.
 pub fn sets_volume(kind: Kind) -> bool
     ensures { λ r. ⌜ r ≡ setsVolume kind ⌝ }
 {

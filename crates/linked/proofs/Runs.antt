@@ -2,23 +2,26 @@
 -- calls, and of whatever is held then any symbol's row can be read.
 -- Assumes nothing.
 use Prim.Native.Nat.{ℕ}
-use mathlib.Core.Path.{_≡_, refl, sym, ap, _∙_}
+use mathlib.Core.Path.{_≡_, refl, sym, ap, subst, _∙_}
 use mathlib.Core.List.{List, [], _∷_}
 use lib.ListN.{length, replicate}
 use Rattle.octets.specs.Run.{Bytes}
 use Rattle.answers.specs.Answers.{numberOf}
+use Rattle.editions.specs.declared.Edition.{Edition}
+use Rattle.editions.specs.Editions.{editionNumber}
 use Rattle.rows.specs.declared.Listing.{Listing}
 use Rattle.counters.specs.declared.Counters.{Counters}
 use Rattle.counters.specs.Counting.{freshCounters}
-use Rattle.book.specs.State.{lent, Outcome, Arrival}
-use Rattle.book.specs.Calls.{listed, delivered, shown}
+use Rattle.book.specs.State.{State, lent, Arrival}
+use Rattle.book.specs.Calls.{listed, delivered}
 use Rattle.book.proofs.Promise.{someLfts, slice}
 use Rattle.book.proofs.Touches.{touches-only}
 use Rattle.words.specs.Words.{counterCount, counterWords, rowCount, rowWords}
-use Rattle.words.proofs.Again.{counters-again}
+use Rattle.words.proofs.Again.{fresh-known}
 use Rattle.clerk.specs.States.{Asked, toList, toDeliver, AskedFit}
 use Rattle.clerk.proofs.Lent.{deliver-bytes}
-use Rattle.cabinet.specs.Crossing.{Held, stateOf, crossed, crossing}
+use Rattle.cabinet.specs.Crossing.{Held, holding, heldOf, crossed, shownFrom}
+use Rattle.cabinet.proofs.Calls.{listed-book, delivered-book}
 use Rattle.cabinet.proofs.Given.{ListLfts, ListArgs, ListExit, DeliverLfts, DeliverArgs, DeliverExit, RowLfts, RowArgs, RowExit}
 use Rattle.cabinet.proofs.Given.{rowFrom, rowAsked}
 use Rattle.cabinet.proofs.sorundappa_start as start
@@ -60,51 +63,45 @@ rowThen h symbol w = (slice (h .words), (slice (h .rows), (slice (h .lines), (sl
 
 -- ---- runs
 
--- what is held after a call with that outcome, with that room for lines
-abbrev holding : Outcome → List ℕ → Held
-holding o lines = record { words = counterWords (o .state .counters); rows = o .state .rows; lines = lines }
-
 counted : (c : Counters) → length (counterWords c) ≡ counterCount
 unfolding counterWords
 counted c = refl
 
-told : (o : Outcome) (lines : List ℕ) → lines ≡ o .state .lines
-    → crossed (o .answer) (counterWords (o .state .counters)) (stateOf (holding o lines)) ≡ crossing o
-told o lines e =
-    ap (crossed (o .answer) (counterWords (o .state .counters)))
-    (ap (λ (c : Counters). lent c (o .state .rows) lines) (counters-again (o .state .counters))
-    ∙ ap (lent (o .state .counters) (o .state .rows)) e)
-
-calls-there : (h : Held) → length (h .words) ≡ counterCount → Bytes (h .lines) → (qs : List Asked) → AskedFit qs
-    → (end : Held) × Calls h qs end
-calls-there h k bl [] f = (h, no-call)
-calls-there h k bl (toList l ∷ qs) f =
-    let o = listed (stateOf h) l in
-    let then = holding o (h .lines) in
-    let t = calls-there then (counted (o .state .counters)) bl qs (f .1) in (
+calls-there : (s : State) → Bytes (s .lines) → (qs : List Asked) → AskedFit qs → (end : Held) × Calls (heldOf s) qs end
+calls-there s bl [] f = (heldOf s, no-call)
+calls-there s bl (toList l ∷ qs) f =
+    let o = listed s l in
+    let same : o .state .lines ≡ s .lines = touches-only s .listedLines l in
+    let t = calls-there (o .state) (subst Bytes (sym same) bl) qs (f .1) in
+    -- the room for lines is lent to be read
+    let then = holding (counterWords (o .state .counters)) (o .state .rows) (s .lines) in
+    let p : then ≡ heldOf (o .state)
+    = ap (holding (counterWords (o .state .counters)) (o .state .rows)) (sym same) in (
       t .0,
-      a-listing listAt (listWith h l) (o .answer) (listThen then l)
-          (told o (h .lines) (sym (touches-only (stateOf h) .listedLines l)), record { count = k; fits = f .0 }) (t .1),
+      a-listing listAt (listWith (heldOf s) l) (o .answer) (listThen then l)
+          (ap (crossed (o .answer)) p ∙ sym (listed-book s l), record { count = counted (s .counters); fits = f .0 })
+          (subst (λ (y : Held). Calls y qs (t .0)) (sym p) (t .1)),
     )
-calls-there h k bl (toDeliver a ∷ qs) f =
-    let o = delivered (stateOf h) a in
-    let then = holding o (o .state .lines) in
-    let t = calls-there then (counted (o .state .counters)) (deliver-bytes (stateOf h) a bl (f .0)) qs (f .1) in (
+calls-there s bl (toDeliver a ∷ qs) f =
+    let o = delivered s a in
+    let t = calls-there (o .state) (deliver-bytes s a bl (f .0)) qs (f .1) in (
       t .0,
-      a-delivery deliverAt (deliverWith h a) (o .answer) (deliverThen then a)
-          (told o (o .state .lines) refl, record { count = k; lent = bl; brought = f .0 }) (t .1),
+      a-delivery deliverAt (deliverWith (heldOf s) a) (o .answer) (deliverThen (heldOf (o .state)) a)
+          (sym (delivered-book s a), record { count = counted (s .counters); lent = bl; brought = f .0 }) (t .1),
     )
 
-pub day-there : (rows lines : List ℕ) → Bytes lines → (qs : List Asked) → AskedFit qs → (end : Held) × LinkedDay rows lines qs end
-day-there rows lines bl qs f =
-    let w = counterWords freshCounters in
-    let t = calls-there (record { words = w; rows = rows; lines = lines }) (counted freshCounters) bl qs f in (
+pub day-there : (ed : Edition) (rows lines : List ℕ) → Bytes lines → (qs : List Asked) → AskedFit qs
+    → (end : Held) × LinkedDay ed rows lines qs end
+day-there ed rows lines bl qs f =
+    let w = counterWords (freshCounters ed) in
+    let t = calls-there (lent (freshCounters ed) rows lines) bl qs f in (
       t .0,
       record {
         lifetimes = someLfts (start.signature .lifetimes);
-        before = (slice w, tt);
-        after = (slice w, tt);
-        started = refl;
+        before = (slice w, (editionNumber ed, tt));
+        after = (slice w, (editionNumber ed, tt));
+        given = refl;
+        started = sym (fresh-known ed);
         calls = t .1;
       },
     )
@@ -113,5 +110,5 @@ day-there rows lines bl qs f =
 pub reading-there : (h : Held) (symbol : List ℕ) → (κs : RowLfts) × (a : RowArgs κs) × (r : ℕ) × (x : RowExit κs)
     × row-reads.Learnt κs a r x × (rowFrom κs a ≡ h) × (rowAsked κs a ≡ symbol)
 reading-there h symbol =
-    let s = shown (stateOf h) symbol in
+    let s = shownFrom h symbol in
     (rowAt, rowWith h symbol (replicate rowCount 0), numberOf (s .answer), rowThen h symbol (rowWords (s .row)), (refl, refl), refl, refl)

@@ -3,6 +3,7 @@
 use Prim.Native.Nat.{ℕ}
 use mathlib.Core.List.{List, [], _∷_, _++_, map}
 use lib.ListN.{getD}
+use Rattle.editions.specs.declared.Edition.the-variants.{NlsPlus}
 use Rattle.counters.specs.Counting.{freshCounters}
 use Rattle.rows.specs.declared.Row.{Row}
 use Rattle.walk.specs.Walking.{figuresOf}
@@ -58,6 +59,6 @@ endingAt CutShort n = StopsAt n
 abbrev pub wallAfter : Play → List ℕ
 wallAfter p = wallOf (p .state) (endingAt (p .stop) (p .used))
 
--- what is printed of a tape that is played on a fresh book in these rooms, whatever they hold at first
+-- what is printed of a tape that is played on a fresh book of NLS Plus in these rooms, whatever they hold at first
 unfoldable pub wallText : State → List ℕ → List ℕ
-wallText rooms tape = wallAfter (played (withCounters freshCounters rooms) tape)
+wallText rooms tape = wallAfter (played (withCounters (freshCounters NlsPlus) rooms) tape)

@@ -13,6 +13,7 @@ use Rattle.answers.specs.Answers.{numberOf, answerOf}
 use Rattle.answers.specs.Cases.{Case, says, spends, given, inBook}
 use Rattle.answers.proofs.Cases.{Rising}
 use Rattle.answers.proofs.Promise.{one-number-each}
+use Rattle.editions.specs.declared.Edition.{Edition}
 use Rattle.message.specs.Reader.{readOf}
 use Rattle.records.specs.declared.Record.{Record}
 use Rattle.message.specs.declared.Reading.{Reading}
@@ -67,16 +68,16 @@ module _ (m : List ℕ) (used : ℕ) where
 abbrev pub Plain : Reading → Type 0
 Plain q = (numberOf (q .answer) ≡ 0) ⊎ ((numberOf (q .answer) ≡ 4) ⊎ (numberOf (q .answer) ≡ 5))
 
-pub read-plain : (m : List ℕ) → Plain (readOf m)
-read-plain m = go (said m)
+pub read-plain : (e : Edition) (m : List ℕ) → Plain (readOf e m)
+read-plain e m = go (said e m)
   where
     number : Reading → ℕ
     number q = numberOf (q .answer)
 
-    go : Said m → Plain (readOf m)
-    go (unshaped e q) = inr (inl (ap number q))
-    go (unkept e f q) = inr (inr (ap number q))
-    go (obeyed e l q) = inl (ap number q)
+    go : Said e m → Plain (readOf e m)
+    go (unshaped s q) = inr (inl (ap number q))
+    go (unkept s o q) = inr (inr (ap number q))
+    go (obeyed s o q) = inl (ap number q)
 
 -- 11 and 12
 madeTable : Ledger → Kind → Record → List Case

@@ -9,6 +9,8 @@ use Rattle.cells.specs.declared.Found.the-variants.{Nothing, At}
 use Rattle.lines.specs.declared.Line.{Line}
 use Rattle.lines.specs.Lines.{lineIn, withLine, withDead}
 use Rattle.rows.specs.Rows.{withReport, withSummary}
+use Rattle.editions.specs.declared.Edition.{Edition}
+use Rattle.editions.specs.Editions.{reports}
 use Rattle.kinds.specs.declared.Kind.{Kind}
 use Rattle.kinds.specs.declared.Kind.the-variants.{Correction}
 use Rattle.kinds.specs.Kinds.{isCorrection, isSummary, namesOld, makesNew, setsVolume}
@@ -60,7 +62,7 @@ linesBy kind m used n r k =
 
 -- ---- rows
 
--- T, X, C and J set the reported volume
+-- T, X, C and J set the reported volume, where the edition reports one
 abbrev pub reported : List ℕ → Record → ℕ → List ℕ
 reported m r i = withReport m i (r .consolidated)
 
@@ -68,13 +70,17 @@ reported m r i = withReport m i (r .consolidated)
 abbrev pub summed : List ℕ → Record → ℕ → List ℕ
 summed m r i = reported (withSummary m i (r .high) (r .low)) r i
 
--- the lent rows after a message of a type; row i is the first of its symbol
-unfoldable pub rowsBy : Kind → List ℕ → Record → ℕ → List ℕ
-rowsBy kind m r i =
+-- the lent rows after a message of a type that reports; row i is the first of its symbol
+unfoldable pub reportedBy : Kind → List ℕ → Record → ℕ → List ℕ
+reportedBy kind m r i =
     -- J
     cond (isSummary kind) (summed m r i)
     -- T, X and C
     (cond (setsVolume kind) (reported m r i) m)
+
+-- and after a message of an edition: where its messages report no consolidated volume, the rows stay as they are
+unfoldable pub rowsBy : Edition → Kind → List ℕ → Record → ℕ → List ℕ
+rowsBy e kind m r i = cond (reports e) (reportedBy kind m r i) m
 
 -- the number of the cell where a search ended; 0 where nothing was found, which no taken message asks for
 abbrev pub indexOf : Found → ℕ

@@ -1,4 +1,6 @@
 // What a taken message does to the lent bytes.
+use editions::Edition;
+use editions::does_report;
 use keys::new_key;
 use keys::old_key;
 use kinds::Kind;
@@ -84,10 +86,10 @@ fn summarise(rows: &mut [u8], r: Record, i: usize)
     rows::report(rows, i, r.consolidated);
 }
 
-// The rows after a message: T, X, C and J set the reported volume of row i, which is their symbol's; J keeps its high
-// and low there.
-pub fn take_rows(rows: &mut [u8], kind: Kind, r: Record, i: usize)
-    ensures { λ _. ⌜ now (rows .exit) ≡ Taking.rowsBy kind (now (rows .entry)) r i ⌝ }
+// The rows after a message that reports: T, X, C and J set the reported volume of row i, which is their symbol's; J
+// keeps its high and low there.
+fn report(rows: &mut [u8], kind: Kind, r: Record, i: usize)
+    ensures { λ _. ⌜ now (rows .exit) ≡ Taking.reportedBy kind (now (rows .entry)) r i ⌝ }
 {
     if is_summary(kind) {
         summarise(rows, r, i);
@@ -95,5 +97,14 @@ pub fn take_rows(rows: &mut [u8], kind: Kind, r: Record, i: usize)
     }
     if sets_volume(kind) {
         rows::report(rows, i, r.consolidated);
+    }
+}
+
+// The rows after a message of an edition: where its messages report no consolidated volume, they stay as they are.
+pub fn take_rows(rows: &mut [u8], edition: Edition, kind: Kind, r: Record, i: usize)
+    ensures { λ _. ⌜ now (rows .exit) ≡ Taking.rowsBy edition kind (now (rows .entry)) r i ⌝ }
+{
+    if does_report(edition) {
+        report(rows, kind, r, i);
     }
 }

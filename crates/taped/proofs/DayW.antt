@@ -11,6 +11,7 @@ use Rattle.answers.specs.Answers.{answerOf}
 use Rattle.show.specs.declared.Net.the-variants.{Amount}
 use Rattle.book.specs.Calls.{shown}
 use Rattle.tape.specs.declared.Stop.the-variants.{Ended}
+use Rattle.editions.specs.declared.Edition.the-variants.{NlsPlus}
 use Rattle.rows.specs.Rows.{rowLimit}
 use Rattle.lines.specs.Lines.{lineLimit}
 use Rattle.book.specs.State.{State, Arrival}
@@ -33,20 +34,20 @@ unfolding playW figuresFor
 w-shown = refl
 
 -- the clerk's taken messages of W name Q 1, and before it Q 2
-clerk-names : namedIn (takenOf (clerkSheet (rowLimit rowsRoom) (alone 250000)) (lineLimit linesRoom) (upto (dayOf w) 6))
+clerk-names : namedIn (takenOf NlsPlus (clerkSheet (rowLimit rowsRoom) (alone 250000)) (lineLimit linesRoom) (upto (dayOf w) 6))
     ≡ (81 ∷ control 49) ∷ (81 ∷ control 50) ∷ []
 unfolding clerkShows namedIn
 clerk-names = refl
 
 -- the calls of any day that brings W's six messages, in rooms of that size, name Q 2 and then Q 1
 pub w-named : {rooms : State} {l : List Arrival} {end : State} → length (rooms .rows) ≡ rowsRoom → length (rooms .lines) ≡ linesRoom
-    → Copies (dayOf w) 6 l → Largest (numbers l) 6 → (h : Day rooms (alone 250000) l end)
+    → Copies (dayOf w) 6 l → Largest (numbers l) 6 → (h : Day NlsPlus rooms (alone 250000) l end)
     → namedBy (h .delivers) ≡ (81 ∷ control 50) ∷ (81 ∷ control 49) ∷ []
 w-named {rooms} {l} e f c g h =
     let taken : ℕ → ℕ → List (List ℕ)
-    = λ r s. namedIn (takenOf (clerkSheet (rowLimit r) (alone 250000)) (lineLimit s) (upto (dayOf w) 6)) in
+    = λ r s. namedIn (takenOf NlsPlus (clerkSheet (rowLimit r) (alone 250000)) (lineLimit s) (upto (dayOf w) 6)) in
     let named = namedBy (h .delivers) in
     sym (reverse-reverse named)
     ∙ ap reverse
-    (sym (named-calls (dayOf w) 6 6 (omega arith) l c g h)
+    (sym (named-calls NlsPlus (dayOf w) 6 6 (omega arith) l c g h)
     ∙ ap (λ (r : ℕ). taken r (length (rooms .lines))) e ∙ ap (taken rowsRoom) f ∙ clerk-names)

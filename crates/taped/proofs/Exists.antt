@@ -8,6 +8,7 @@ use lib.ListN.{length, take, drop, take-append-drop}
 use lib.Seq.{take-length}
 use Rattle.octets.specs.Run.{Bytes}
 use Rattle.octets.proofs.Bytes.{none-bytes, append-bytes}
+use Rattle.editions.specs.declared.Edition.the-variants.{NlsPlus}
 use Rattle.counters.specs.Counting.{freshCounters}
 use Rattle.book.specs.State.{State, withCounters}
 use Rattle.book.proofs.Promise.{someLfts, slice}
@@ -42,7 +43,7 @@ goThen s n = (reading s, (slice (s .state .rows), (slice (s .state .lines), (sli
 
 module _ (rooms : State) (bl : Bytes (rooms .lines)) where
   abbrev fresh : State
-  fresh = withCounters freshCounters rooms
+  fresh = withCounters (freshCounters NlsPlus) rooms
 
   -- a tape of bytes leaves the room for lines bytes
   lines-then : (tape : List ℕ) → Bytes tape → Bytes (played fresh tape .state .lines)

@@ -12,6 +12,7 @@ use Rattle.octets.proofs.Laws.{sets-front}
 use Rattle.lines.specs.Lines.{lineLimit}
 use Rattle.rows.specs.Rows.{rowLimit}
 use Rattle.rows.proofs.Slabs.{used-rows-length}
+use Rattle.editions.specs.declared.Edition.the-variants.{NlsPlus}
 use Rattle.counters.specs.Counting.{lastNumber, freshCounters}
 use Rattle.book.specs.State.{State, withCounters}
 use Rattle.tape.specs.declared.Stop.the-variants.{Ended, NoKind}
@@ -63,7 +64,7 @@ played-long s b = played-for (length b) s b (omega arith)
 -- a tape of fewer than 2 to the 64 bytes, read through
 module _ {rooms : State} {tape : List ℕ} {s : Standing} (read : ReadSo rooms tape s) (short : length tape < 2 ^ 64) where
   abbrev fresh : State
-  fresh = withCounters freshCounters rooms
+  fresh = withCounters (freshCounters NlsPlus) rooms
 
   at-is : s .at ≡ played fresh tape .used
   at-is = read-so read .at ∙ mod-eq-of-lt (omega (arith, used-within fresh tape))

@@ -16,6 +16,7 @@ use Rattle.rows.specs.declared.Row.{Row}
 use Rattle.rows.specs.Rows.{rowLimit}
 use Rattle.walk.specs.Walking.{figuresOf}
 use Rattle.show.specs.Showing.{shownOf}
+use Rattle.editions.specs.declared.Edition.the-variants.{NlsPlus}
 use Rattle.counters.specs.Counting.{lastNumber, freshCounters}
 use Rattle.print.specs.Texts.{headerText, rowText, closingText}
 use Rattle.book.specs.State.{State, withCounters, rowsIn, linesIn}
@@ -67,16 +68,17 @@ pub map-map : {A B C : Type 0} (f : A → B) (g : B → C) (xs : List A) → map
 map-map f g [] = refl
 map-map {C = C} f g (x ∷ xs) = ap (λ (ys : List C). g (f x) ∷ ys) (map-map f g xs)
 
-module _ (R L : ℕ) (sheet : List Listing) (room : ℕ) (ms : List (List ℕ)) (s : State) (h : Stands R L (clerkBook sheet room ms) s) where
+module _ (R L : ℕ) (sheet : List Listing) (room : ℕ) (ms : List (List ℕ)) (s : State)
+    (h : Stands R L (clerkBook NlsPlus sheet room ms) s) where
   abbrev taken : List Taken
-  taken = takenOf sheet room ms
+  taken = takenOf NlsPlus sheet room ms
 
-  rows-are : rowLines s ≡ map (λ (l : Listing). rowText (shownBy taken l)) sheet
+  rows-are : rowLines s ≡ map (λ (l : Listing). rowText (shownBy NlsPlus taken l)) sheet
   unfolding rowOf shownBy
   rows-are =
       ap₂ (λ (ls : List Line) (ws : List Row). map (λ (w : Row). rowText (shownOf w (figuresOf (w .listing .symbol) ls))) ws)
-      (the-lines R L sheet room ms s h) (the-rows R L sheet room ms s h)
-      ∙ map-map (rowOf taken) (λ (w : Row). rowText (shownOf w (figuresOf (w .listing .symbol) (tradesOf taken)))) sheet
+      (the-lines R L NlsPlus sheet room ms s h) (the-rows R L NlsPlus sheet room ms s h)
+      ∙ map-map (rowOf NlsPlus taken) (λ (w : Row). rowText (shownOf w (figuresOf (w .listing .symbol) (tradesOf taken)))) sheet
 
   counts-are : closingText (s .counters .taken) (s .counters .wanted) ≡ closingText (length taken) (suc (length ms))
   unfolding bookOf clerkBook bookBy
@@ -99,11 +101,11 @@ pub tape-day : (day : ℕ → List ℕ) (N n : ℕ) → N ≤ lastNumber → (ro
     (endingAt (endOf rest) (length (tapeOf es)))
 unfolding wallText
 tape-day day N n fits rooms bl b bytes es rest t copies largest =
-    let fresh = withCounters freshCounters rooms in
+    let fresh = withCounters (freshCounters NlsPlus) rooms in
     let sheet = clerkSheet (rowLimit (length (rooms .rows))) (listingsIn (askedIn es)) in
     let whole : Bytes (tapeOf es ++ rest) = subst Bytes (t .bytes) bytes in
     let fit = asked-fits es (t .each) (bytes-before (tapeOf es) rest whole) in
-    let stands = steps-are day N n fits rooms bl (askedIn es) fit copies largest in
+    let stands = steps-are NlsPlus day N n fits rooms bl (askedIn es) fit copies largest in
     let ending = endingAt (endOf rest) (length (tapeOf es)) in
     ap wallAfter (play-split fresh b es rest bytes t)
     ∙ ap (λ (s : State). wallOf s ending) (asked-is fresh es)

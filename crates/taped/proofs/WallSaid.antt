@@ -11,6 +11,8 @@ use lib.ListN.{length, getD}
 use lib.Seq.{map-set-same}
 use Rattle.octets.specs.Run.{Bytes, tab, same}
 use Rattle.answers.specs.Cases.{says, given, inBook}
+use Rattle.editions.specs.declared.Edition.{Edition}
+use Rattle.editions.specs.Editions.{reports}
 use Rattle.message.specs.Reader.{readOf}
 use Rattle.records.specs.declared.Record.{Record}
 use Rattle.kinds.specs.declared.Kind.{Kind}
@@ -23,6 +25,7 @@ use Rattle.rows.specs.Rows.{rowLimit, usedRows, sheetIn, noRow, isOf, listingOf
 use Rattle.rows.specs.Changed.{listedRow, ListingFits}
 use Rattle.rows.proofs.Slabs.{used-rows-length, row-in}
 use Rattle.lines.specs.Lines.{lineLimit}
+use Rattle.editions.specs.declared.Edition.the-variants.{NlsPlus}
 use Rattle.counters.specs.Counting.{freshCounters}
 use Rattle.walk.specs.Walking.{figuresOf}
 use Rattle.show.specs.declared.RowShown.{RowShown}
@@ -31,7 +34,7 @@ use Rattle.print.specs.Texts.{headerText, rowText, closingText}
 use Rattle.keys.specs.Keys.{kindIn}
 use Rattle.take.specs.Taking.{indexOf}
 use Rattle.table.specs.Table.{isFound, numberTable}
-use Rattle.book.specs.State.{State, withCounters, Arrival, wantedIn, rowsIn, linesIn, sheetOf, soundIn}
+use Rattle.book.specs.State.{State, withCounters, Arrival, editionOf, wantedIn, rowsIn, linesIn, sheetOf, soundIn}
 use Rattle.book.specs.Calls.{listTable, listAnswer, listed, delivered, rowTable, rowAnswer, shown}
 use Rattle.book.proofs.Touches.{touches-only}
 use Rattle.clerk.specs.Steps.{Book, bookOf, keeping, summing, changeFound, inItsRow, rowsFor, takenInto, usingUp, content, wantedDone}
@@ -61,14 +64,15 @@ rows-kept : (change : Row → Row) → ((w : Row) → change w .listing ≡ w .l
 rows-kept change h rs Nothing = refl
 rows-kept change h rs (At i) = map-set-same (λ (w : Row). w .listing) rs i (change (getD rs i noRow)) noRow (h (getD rs i noRow))
 
-for-kept : (kind : Kind) (r : Record) (rs : List Row) → sheetIn (rowsFor kind r rs) ≡ sheetIn rs
+for-kept : (ed : Edition) (kind : Kind) (r : Record) (rs : List Row) → sheetIn (rowsFor ed kind r rs) ≡ sheetIn rs
 unfolding rowsFor
-for-kept kind r rs = go (isSummary kind) (setsVolume kind)
+for-kept ed kind r rs = go (reports ed) (isSummary kind) (setsVolume kind)
   where
-    go : (a b : Bool) → sheetIn (cond a (inItsRow (summing r) r rs) (cond b (inItsRow (keeping r) r rs) rs)) ≡ sheetIn rs
-    go true b = rows-kept (summing r) (λ w. refl) rs (listingOf (r .symbol) (sheetIn rs))
-    go false true = rows-kept (keeping r) (λ w. refl) rs (listingOf (r .symbol) (sheetIn rs))
-    go false false = refl
+    go : (p a b : Bool) → sheetIn (cond p (cond a (inItsRow (summing r) r rs) (cond b (inItsRow (keeping r) r rs) rs)) rs) ≡ sheetIn rs
+    go false a b = refl
+    go true true b = rows-kept (summing r) (λ w. refl) rs (listingOf (r .symbol) (sheetIn rs))
+    go true false true = rows-kept (keeping r) (λ w. refl) rs (listingOf (r .symbol) (sheetIn rs))
+    go true false false = refl
 
 next-kept : (limit : ℕ) (b : Book) (a : Arrival) → sheetIn (next limit b a .rows) ≡ sheetIn (b .rows)
 unfolding next wantedDone takenInto usingUp
@@ -76,10 +80,10 @@ next-kept limit b a =
     go (eqb (given (numberTable (b .wanted) (a .number)) .number) 0) (eqb (content limit b (a .message)) 0)
   where
     r : Record
-    r = readOf (a .message) .found
+    r = readOf (b .edition) (a .message) .found
 
     go : (t u : Bool) → sheetIn (cond t (cond u (takenInto r b) (usingUp b)) b .rows) ≡ sheetIn (b .rows)
-    go true true = for-kept (kindIn r) r (b .rows)
+    go true true = for-kept (b .edition) (kindIn r) r (b .rows)
     go true false = refl
     go false u = refl
 
@@ -105,6 +109,7 @@ listing-added s safe l f =
     more : Book
     more =
         record {
+          edition = editionOf s;
           wanted = wantedIn s;
           phase = s .counters .phase;
           rows = rowsIn s ++ (listedRow l ∷ []);
@@ -150,16 +155,16 @@ pub record Steady (s : State) : Type 0 where
   pub once : NoRepeat (symbolsIn (sheetOf s))
   pub bytes : Bytes (s .lines)
 
-fresh-sheet : (rooms : State) → sheetOf (withCounters freshCounters rooms) ≡ []
+fresh-sheet : (rooms : State) → sheetOf (withCounters (freshCounters NlsPlus) rooms) ≡ []
 unfolding usedRows tab
 fresh-sheet rooms =
     let e : min 0 (rowLimit (length (rooms .rows))) ≡ 0 = omega arith in
     rw e
 
-pub fresh-steady : (rooms : State) → Bytes (rooms .lines) → Steady (withCounters freshCounters rooms)
+pub fresh-steady : (rooms : State) → Bytes (rooms .lines) → Steady (withCounters (freshCounters NlsPlus) rooms)
 fresh-steady rooms bl =
     record {
-      safe = fresh-sound (length (rooms .rows)) (length (rooms .lines));
+      safe = fresh-sound NlsPlus (length (rooms .rows)) (length (rooms .lines));
       once = subst (λ (x : List Listing). NoRepeat (symbolsIn x)) (sym (fresh-sheet rooms)) tt;
       bytes = bl;
     }
@@ -246,10 +251,10 @@ module _ (s : State) (h : Steady s) where
 
 -- of any tape of bytes: these entries, and then a rest at whose head none stands
 pub wall-said : (rooms : State) → Bytes (rooms .lines) → (b : List ℕ) → Bytes b → (es : List Entry) (rest : List ℕ) → Tape b es rest
-    → wallText rooms b ≡ wallSaid (withCounters freshCounters rooms) es (endingAt (endOf rest) (length (tapeOf es)))
+    → wallText rooms b ≡ wallSaid (withCounters (freshCounters NlsPlus) rooms) es (endingAt (endOf rest) (length (tapeOf es)))
 unfolding wallText wallSaid wallOf wallLines
 wall-said rooms bl b bytes es rest t =
-    let fresh = withCounters freshCounters rooms in
+    let fresh = withCounters (freshCounters NlsPlus) rooms in
     let whole : Bytes (tapeOf es ++ rest) = subst Bytes (t .bytes) bytes in
     let fit = asked-fits es (t .each) (bytes-before (tapeOf es) rest whole) in
     let end = actedAll fresh es in

@@ -1,9 +1,10 @@
--- The wall that the clerk would print: from the sheet, the room and the used messages alone.
+-- The wall that the clerk would print of NLS Plus: from the sheet, the room and the used messages alone.
 -- Assumes nothing.
 use Prim.Native.Nat.{ℕ, suc}
 use mathlib.Core.List.{List, [], _∷_, _++_, map}
 use lib.ListN.{length}
 use Rattle.octets.specs.Run.{Bytes}
+use Rattle.editions.specs.declared.Edition.the-variants.{NlsPlus}
 use Rattle.rows.specs.declared.Listing.{Listing}
 use Rattle.print.specs.Texts.{headerText, rowText, closingText}
 use Rattle.book.specs.State.{Arrival}
@@ -17,11 +18,11 @@ use Rattle.clerk.specs.Clerk.{Taken, takenOf, shownBy}
 -- a line for each listing on the sheet, in its order; the counts; and where the tape stops, if it does
 abbrev pub linesBy : List Listing → List Taken → ℕ → Ending → List (List ℕ)
 linesBy sheet es n e =
-    headerText ∷ (map (λ (l : Listing). rowText (shownBy es l)) sheet ++ (closingText (length es) (suc n) ∷ endLines e))
+    headerText ∷ (map (λ (l : Listing). rowText (shownBy NlsPlus es l)) sheet ++ (closingText (length es) (suc n) ∷ endLines e))
 
 -- `limit` is how many lines the room has; messages have the newest first
 unfoldable pub clerkWall : List Listing → ℕ → List (List ℕ) → Ending → List ℕ
-clerkWall sheet limit ms e = joined (linesBy sheet (takenOf sheet limit ms) (length ms) e)
+clerkWall sheet limit ms e = joined (linesBy sheet (takenOf NlsPlus sheet limit ms) (length ms) e)
 
 -- ---- what a tape asks of the book
 

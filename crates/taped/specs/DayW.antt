@@ -2,6 +2,7 @@
 -- Assumes nothing.
 use Prim.Native.Nat.{ℕ}
 use mathlib.Core.List.{List, [], _∷_, _++_}
+use Rattle.editions.specs.declared.Edition.the-variants.{NlsPlus}
 use Rattle.book.specs.State.{arrives}
 use Rattle.tape.specs.Entries as Entries
 use Rattle.tape.specs.Playing as Playing
@@ -37,7 +38,7 @@ tapeW = tapeOf entriesW
 
 unfoldable pub playW : Play
 unfolding tapeW Entries.bodyLength Entries.headOf Entries.entryOf Playing.acted Playing.playSome Playing.played
-playW = played freshRooms tapeW
+playW = played (freshRooms NlsPlus) tapeW
 
 -- ---- the wall of W
 

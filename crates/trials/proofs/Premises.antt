@@ -8,6 +8,7 @@ use mathlib.Core.List.{List}
 use native.Mathlib.Omega.{arith}
 use borrow.Author.Tests.{eq-eqb}
 use lib.ListN.{length}
+use Rattle.editions.specs.declared.Edition.{Edition}
 use Rattle.rows.specs.declared.Listing.{Listing}
 use Rattle.sound.proofs.Sound.{sound-gives}
 use Rattle.book.specs.State.{State, Arrival, wantedIn}
@@ -45,13 +46,14 @@ premises-needed =
     }
 
 -- N is at most 4,294,967,295: no day brings a book past wanting the number after that
-pub last-wanted : {rooms : State} {ls : List Listing} {l : List Arrival} {end : State} → Day rooms ls l end → wantedIn end ≤ 4294967296
-last-wanted {rooms} {ls} {l} {end} h =
+pub last-wanted : {ed : Edition} {rooms : State} {ls : List Listing} {l : List Arrival} {end : State}
+    → Day ed rooms ls l end → wantedIn end ≤ 4294967296
+last-wanted {ed} {rooms} {ls} {l} {end} h =
     let rows = length (rooms .rows) in
-    let e = delivers-are rows (length (rooms .lines)) (listedBook (clerkSheet (rowLimit rows) ls)) (h .delivers) (sheet-stands h) in
+    let e = delivers-are rows (length (rooms .lines)) (listedBook ed (clerkSheet (rowLimit rows) ls)) (h .delivers) (sheet-stands h) in
     sound-gives (end .counters) (length (end .rows)) (length (end .lines)) (e .safe) .greatest
 
 -- so of a day of one message more the last is not used, though it comes in order
-pub one-too-many : {rooms : State} {ls : List Listing} {l : List Arrival} {end : State}
-    → Day rooms ls l end → numbers l ≡ run 1 4294967296 → Largest (numbers l) 4294967296 × (wantedIn end ≡ 4294967297 → ⊥)
+pub one-too-many : {ed : Edition} {rooms : State} {ls : List Listing} {l : List Arrival} {end : State}
+    → Day ed rooms ls l end → numbers l ≡ run 1 4294967296 → Largest (numbers l) 4294967296 × (wantedIn end ≡ 4294967297 → ⊥)
 one-too-many h e = (subst (λ (ks : List ℕ). Largest ks 4294967296) (sym e) (largest-run 4294967296), λ w. omega (arith, w, last-wanted h))

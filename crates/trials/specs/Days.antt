@@ -1,7 +1,7 @@
 -- Days to try by hand, as one table: what is listed, what arrives, what is said back, how many messages are used, and what each row shows
 -- then. The table is worked from the book's promises, in lent rooms whose bytes are all 35 at first, and its rows once more from the
 -- clerk's definitions, of as many messages as are used. The numbers are document 01's; the days without one tell apart what book and clerk
--- share, where both could be wrong.
+-- share, where both could be wrong. All but the last part are of NLS Plus.
 -- Assumes nothing.
 use Prim.Native.Nat.{ℕ, zero, suc, _*_, _-_}
 use mathlib.Core.Path.{_≡_}
@@ -20,6 +20,8 @@ use Rattle.show.specs.declared.Net.{Net}
 use Rattle.show.specs.declared.Net.the-variants.{NoNet, Amount}
 use Rattle.show.specs.declared.RowShown.{RowShown}
 use Rattle.rows.specs.declared.Listing.{Listing}
+use Rattle.editions.specs.declared.Edition.{Edition}
+use Rattle.editions.specs.declared.Edition.the-variants.{NlsPlus, Pls}
 use Rattle.counters.specs.Counting.{freshCounters}
 use Rattle.book.specs.State.{State, roomless, withRows, withLines, arrives}
 use Rattle.book.specs.Calls.{listed, delivered, shown}
@@ -31,6 +33,9 @@ use Rattle.layout.specs.Values as Values
 use Rattle.layout.specs.Tables as Tables
 use Rattle.records.specs.Held as Held
 use Rattle.packing.specs.Layouts as Layouts
+use Rattle.pls.specs.Layouts as Ascii
+use Rattle.decimal.specs.Letters.{letters}
+use Rattle.digits.specs.Field as Field
 use Rattle.message.specs.Reader as Reader
 use Rattle.cells.specs.Search as Search
 use Rattle.lines.specs.Lines as Lines
@@ -202,6 +207,10 @@ figures close last high low net volume count agrees reported = figuresFor abcd c
 abbrev pub priced : ℕ → ℕ → ℕ → ℕ → Net → ℕ → ℕ → ℕ → RowShown
 priced close last high low net volume count reported = figures close (Of last) (Of high) (Of low) net volume count false (Volume reported)
 
+-- one with nothing reported
+abbrev pub silent : ℕ → ℕ → ℕ → ℕ → Net → ℕ → ℕ → RowShown
+silent close last high low net volume count = figures close (Of last) (Of high) (Of low) net volume count false NotSet
+
 -- ---- worked from the book's promises
 
 -- room for two rows and twelve lines, and some bytes more
@@ -215,13 +224,13 @@ unfoldable pub listedEach : State → List Listing → State
 listedEach s [] = s
 listedEach s (l ∷ ls) = listedEach (listed s l .state) ls
 
--- a fresh book in rooms for two rows and twelve lines and some bytes more, all 35 at first
-abbrev pub freshRooms : State
-freshRooms = withRows (replicate rowsRoom 35) (withLines (replicate linesRoom 35) (roomless freshCounters))
+-- a fresh book of an edition in rooms for two rows and twelve lines and some bytes more, all 35 at first
+abbrev pub freshRooms : Edition → State
+freshRooms e = withRows (replicate rowsRoom 35) (withLines (replicate linesRoom 35) (roomless (freshCounters e)))
 
 -- a fresh book with the sheet finished
-unfoldable pub opened : List Listing → State
-opened sheet = listedEach freshRooms sheet
+unfoldable pub opened : Edition → List Listing → State
+opened e sheet = listedEach (freshRooms e) sheet
 
 unfoldable pub deliveredIn : State → ℕ → List ℕ → State
 deliveredIn s n m = delivered s (arrives n m) .state
@@ -243,27 +252,28 @@ abbrev pub leftBy : (ℕ → List ℕ) → State → List ℕ → State
 leftBy day s ns = courseOf day s ns .left
 
 -- the arrivals of a case, in a book with its sheet finished
-unfoldable pub caseRun : Case → Course
+unfoldable pub caseRun : Edition → Case → Course
 unfolding Run.tab Run.part Number.be Number.digits Up.up Text.text Conditions.levelAt Conditions.marksOf Conditions.conditionMarks
-    Layouts.layoutS Layouts.layoutT Layouts.layoutC Layouts.layoutJ Values.roomOf Tables.speltBy Tables.obeysBy
+    Layouts.layoutS Layouts.layoutT Layouts.layoutC Layouts.layoutJ Ascii.layoutS Ascii.layoutT Ascii.layoutC Field.spelt Field.valueOf
+    Values.roomOf Tables.speltBy Tables.obeysBy
     Held.saleFrom Held.newFrom Held.recordFrom Held.readBy Reader.readIn Reader.readOf Search.first
     Lines.lineFrom Lines.lineBytes Lines.usedLines Lines.lineIn Lines.withLine Lines.withDead
     Rows.listingFrom Rows.summaryAt Rows.reportedAt Rows.rowFrom Rows.newRow Rows.reportBytes Rows.summaryBytes Rows.usedRows
     Rows.rowIn Rows.inRow
     Walking.counts Figures.sold Walking.tally Walking.fold Walking.figuresOf Showing.shownOf
-    Kinds.kindOf Keys.matches Table.numberTable Table.contentTable Taking.linesBy Taking.rowsBy Sound.sound Counting.takenBy
-    Calls.listTable Calls.listAnswer Calls.listed Calls.messageGiven Calls.delivered Calls.rowAnswer Calls.shown
+    Kinds.kindOf Keys.matches Table.numberTable Table.contentTable Taking.linesBy Taking.reportedBy Taking.rowsBy Sound.sound
+    Counting.takenBy Calls.listTable Calls.listAnswer Calls.listed Calls.messageGiven Calls.delivered Calls.rowAnswer Calls.shown
     figuresFor listedEach opened deliveredIn courseOf
-caseRun c = courseOf (dayOf (c .day)) (opened (c .sheet)) (c .arrivals)
+caseRun e c = courseOf (dayOf (c .day)) (opened e (c .sheet)) (c .arrivals)
 
 -- ---- worked by the clerk
 
-unfoldable pub clerkShows : Case → List RowShown
+unfoldable pub clerkShows : Edition → Case → List RowShown
 unfolding caseRun Clerk.sheetFrom Clerk.phaseAfter Clerk.originOf Clerk.tradesBut Clerk.takenOf Clerk.summaryOf Clerk.reportedOf
     Clerk.rowOf Clerk.shownBy Arrivals.upto
-clerkShows c =
-    let es = takenOf (clerkSheet (rowLimit rowsRoom) (c .sheet)) (lineLimit linesRoom) (upto (dayOf (c .day)) (c .used)) in
-    map (shownBy es) (c .sheet)
+clerkShows e c =
+    let es = takenOf e (clerkSheet (rowLimit rowsRoom) (c .sheet)) (lineLimit linesRoom) (upto (dayOf (c .day)) (c .used)) in
+    map (shownBy e es) (c .sheet)
 
 -- ---- the table
 
@@ -275,23 +285,24 @@ pub record Result : Type 0 where
   pub clerk : List RowShown
 
 -- a case as it is worked, and as the table has it
-unfoldable pub worked : Case → Result
+unfoldable pub worked : Edition → Case → Result
 unfolding clerkShows
-worked c =
-    let p = caseRun c in
+worked e c =
+    let p = caseRun e c in
     record {
       said = p .said;
       used = p .left .counters .wanted - 1;
       book = map (λ (l : Listing). shown (p .left) (l .symbol) .row) (c .sheet);
-      clerk = clerkShows c;
+      clerk = clerkShows e c;
     }
 
 abbrev pub expected : Case → Result
 expected c = record { said = c .said; used = c .used; book = c .shown; clerk = c .shown }
 
-abbrev pub AsSaid : List Case → Type 0
-AsSaid [] = Unit {0}
-AsSaid (c ∷ cs) = (worked c ≡ expected c) × AsSaid cs
+-- the cases of a part of the table, in a book of an edition
+abbrev pub AsSaid : Edition → List Case → Type 0
+AsSaid e [] = Unit {0}
+AsSaid e (c ∷ cs) = (worked e c ≡ expected c) × AsSaid e cs
 
 -- document 01's days, by their numbers
 unfoldable pub numbered : List Case
@@ -795,6 +806,15 @@ bounded =
       used = 13;
       shown = figures 250000 Absent Absent Absent NoNet 0 0 false NotSet ∷ [];
     }
+    -- an event and a trade of PLS, which are no messages here
+    ∷ record {
+      sheet = alone 250000;
+      day = letters "       0SO" ∷ letters "34200000TXABCD    Q1             251000      100@   " ∷ event 3 79 ∷ [];
+      arrivals = 1 ∷ 2 ∷ 3 ∷ [];
+      said = 4 ∷ 4 ∷ 0 ∷ [];
+      used = 3;
+      shown = figures 250000 Absent Absent Absent NoNet 0 0 false NotSet ∷ [];
+    }
     -- codes that are not of their level: at 1 space ? A B, at 2 @ 3 8 E G N P, at 3 @ K M S V Y, at 4 @ C E G J L R T U Z
     ∷ record {
       sheet = alone 250000;
@@ -827,6 +847,70 @@ bounded =
     }
     ∷ []
 
+-- days of PLS, whose messages are texts
+unfoldable pub spelt : List Case
+spelt =
+    -- an event of NLS Plus, which is no message here; then an event and a trade
+    record {
+      sheet = alone 250000;
+      day = event 1 79 ∷ letters "       0SO" ∷ letters "34200000TXABCD    Q1             251000      100@   " ∷ [];
+      arrivals = 1 ∷ 2 ∷ 3 ∷ [];
+      said = 4 ∷ 0 ∷ 0 ∷ [];
+      used = 3;
+      shown = silent 250000 251000 251000 251000 (Amount (pos 1000)) 100 1 ∷ [];
+    }
+    -- W, all at X: its rows, with nothing reported
+    ∷ record {
+      sheet = alone 250000;
+      day =
+          letters "    1000SO"
+          ∷ letters "    2000TXABCD    Q1             251000      100@   "
+          ∷ letters "    3000TXABCD    Q2             260000      300@   "
+          ∷ letters "    4000TXABCD    Q3             249000       50@  I"
+          ∷ letters "    5000XXABCD    Q2             260000      300@   "
+          ∷ letters "    6000CXABCD    Q1             251000      100@   9             252500      120@   "
+          ∷ [];
+      arrivals = inOrder 6;
+      said = replicate 6 0;
+      used = 6;
+      shown = silent 250000 252500 252500 252500 (Amount (pos 2500)) 170 2 ∷ [];
+    }
+    -- a cancel names its trade however it spells price and size; with another size it differs from the line
+    ∷ record {
+      sheet = alone 250000;
+      day =
+          letters "00001000SO"
+          ∷ letters "    2000TXABCD    Q1             251000      100@   "
+          ∷ letters "    3000XXABCD    Q1             251000      101@   "
+          ∷ letters "00004000XXABCD    Q1         0000251000000000100@   "
+          ∷ [];
+      arrivals = inOrder 4;
+      said = 0 ∷ 0 ∷ 10 ∷ 0 ∷ [];
+      used = 4;
+      shown = figures 250000 Absent Absent Absent NoNet 0 0 false NotSet ∷ [];
+    }
+    -- a price that four bytes would take for 1, no digit, three decimals, centre Q, class B, a J and a trade of NLS Plus
+    ∷ record {
+      sheet = alone 250000;
+      day =
+          letters "    1000SO"
+          ∷ letters "    2000TXABCD    Q1         4294967297      100@   "
+          ∷ letters "    2000TXABCD    Q1             251000         @   "
+          ∷ letters "    2000TXABCD    Q1                001      100@   "
+          ∷ letters "    2000TQABCD    Q1             251000      100@   "
+          ∷ letters "    2000TXABCD    B1             251000      100@   "
+          ∷ summary 7 260000 251000 700
+          ∷ trade 8 88 q1 800
+          ∷ [];
+      arrivals = inOrder 8;
+      said = 0 ∷ replicate 5 5 ++ (4 ∷ 4 ∷ []);
+      used = 8;
+      shown = figures 250000 Absent Absent Absent NoNet 0 0 false NotSet ∷ [];
+    }
+    ∷ []
+
 -- the whole table
 abbrev pub DaysAsSaid : Type 0
-DaysAsSaid = AsSaid numbered × AsSaid marked × AsSaid summed × AsSaid answered × AsSaid bounded
+DaysAsSaid =
+    AsSaid NlsPlus numbered × AsSaid NlsPlus marked × AsSaid NlsPlus summed × AsSaid NlsPlus answered × AsSaid NlsPlus bounded
+    × AsSaid Pls spelt

@@ -5,6 +5,7 @@
 use Prim.Native.Nat.{ℕ, _≤_}
 use mathlib.Core.Path.{_≡_}
 use mathlib.Core.List.{List, [], _∷_}
+use Rattle.editions.specs.declared.Edition.the-variants.{NlsPlus}
 use Rattle.lines.specs.Lines.{lineLimit}
 use Rattle.rows.specs.Rows.{rowLimit}
 use Rattle.book.specs.State.{State, withCounters, withRows, withLines, arrives}
@@ -22,16 +23,16 @@ day = dayOf (event 1 79 ∷ trade 2 81 q1 100 ∷ cancel 3 81 q1 200 ∷ [])
 -- the clerk's book after the first n
 unfoldable pub clerks : ℕ → Book
 unfolding clerkShows Clerk.bookBy Clerk.clerkBook
-clerks n = clerkBook (clerkSheet (rowLimit rowsRoom) (alone 250000)) (lineLimit linesRoom) (upto day n)
+clerks n = clerkBook NlsPlus (clerkSheet (rowLimit rowsRoom) (alone 250000)) (lineLimit linesRoom) (upto day n)
 
 -- the book with the sheet finished, and with nothing done
 unfoldable pub ready : State
 unfolding clerks
-ready = opened (alone 250000)
+ready = opened NlsPlus (alone 250000)
 
 unfoldable pub untouched : State
 unfolding ready
-untouched = freshRooms
+untouched = freshRooms NlsPlus
 
 -- the book after these arrivals
 unfoldable pub afterThese : List ℕ → State

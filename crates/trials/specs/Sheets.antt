@@ -8,6 +8,7 @@ use mathlib.Core.List.{List, [], _∷_, _++_, map}
 use lib.ListN.{replicate}
 use Rattle.rows.specs.Rows.{rowLimit}
 use Rattle.rows.specs.declared.Listing.{Listing}
+use Rattle.editions.specs.declared.Edition.the-variants.{NlsPlus}
 use Rattle.counters.specs.Counting.{freshCounters}
 use Rattle.book.specs.State.{State, roomless, withRows, sheetOf}
 use Rattle.book.specs.Calls.{listed}
@@ -40,7 +41,7 @@ answersListing s (l ∷ ls) = listed s l .answer ∷ answersListing (listed s l 
 
 -- a fresh book in a room of so many bytes, all 35 at first
 abbrev pub freshIn : ℕ → State
-freshIn room = withRows (replicate room 35) (roomless freshCounters)
+freshIn room = withRows (replicate room 35) (roomless (freshCounters NlsPlus))
 
 -- what is said back, first and afterwards, and the rows between, as worked from the book and as worked by the clerk
 pub record Tally : Type 0 where

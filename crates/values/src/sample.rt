@@ -1,4 +1,6 @@
 // A message to try: the first `length` of its bytes, printed under the letter `kind`.
+use editions::Edition;
+
 pub struct Sample {
     pub kind: u8,
     pub bytes: [u8; 80],
@@ -21,7 +23,7 @@ fn answer_to(bytes: &[u8], n: usize) -> u8 {
 }
 
 fn answer(message: &[u8]) -> u8 {
-    let said = message::read(message);
+    let said = message::read(Edition::NlsPlus, message);
     let a = said.answer;
     answers::number(a)
 }

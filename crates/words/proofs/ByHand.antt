@@ -1,5 +1,5 @@
--- A row's fifteen words by hand. The figures are document 01's, or our papers' where it leaves them open, and come from no definition, so a
--- word that is wrong in the code and in its definition alike is found here.
+-- A row's fifteen words and the counters' six by hand. The figures are document 01's, or our papers' where it leaves them open, and come
+-- from no definition, so a word that is wrong in the code and in its definition alike is found here.
 -- Assumes nothing.
 use Prim.Native.Nat.{ℕ}
 use mathlib.Core.Path.{_≡_, refl}
@@ -15,7 +15,13 @@ use Rattle.rows.specs.declared.Reported.the-variants.{NotSet, Volume}
 use Rattle.show.specs.declared.Net.{Net}
 use Rattle.show.specs.declared.Net.the-variants.{NoNet, Amount}
 use Rattle.show.specs.declared.RowShown.{RowShown}
-use Rattle.words.specs.Words.{rowWords}
+use Rattle.editions.specs.declared.Edition.{Edition}
+use Rattle.editions.specs.declared.Edition.the-variants.{NlsPlus, Pls}
+use Rattle.editions.specs.Editions.{editionNamed}
+use Rattle.counters.specs.declared.Counters.{Counters}
+use Rattle.counters.specs.Counting.{startedFor}
+use Rattle.words.specs.declared.Meant.the-variants.{Book, NoBook}
+use Rattle.words.specs.Words.{counterWords, countersOf, freshWords, rowWords}
 
 -- symbol, close, last, high, low, net, volume, count, agrees, reported
 abbrev row : List ℕ → ℕ → Price → Price → Price → Net → ℕ → ℕ → Bool → Reported → RowShown
@@ -48,3 +54,20 @@ pub row-words : (rowWords (row abcd 250000 (Of 252500) (Of 252500) (Of 252500) (
     ≡ 0 ∷ 0 ∷ 0 ∷ 0 ∷ 0 ∷ 0 ∷ 0 ∷ 0 ∷ 0 ∷ 0 ∷ 0 ∷ 0 ∷ 0 ∷ 0 ∷ 0 ∷ [])
 unfolding Number.be rowWords
 row-words = (refl, refl, refl, refl)
+
+-- ---- the counters' six words by hand
+
+abbrev counted : Edition → Counters
+counted e = record { start = startedFor e; wanted = 7; phase = 1; rows = 2; lines = 4; taken = 6 }
+
+-- the day W's counters, in a book of either edition; what words are, and words that are no book's; what a start writes
+pub counter-words : (counterWords (counted NlsPlus) ≡ 7 ∷ 1 ∷ 2 ∷ 4 ∷ 6 ∷ 0 ∷ [])
+    × (counterWords (counted Pls) ≡ 7 ∷ 1 ∷ 2 ∷ 4 ∷ 6 ∷ 1 ∷ [])
+    × (countersOf (7 ∷ 1 ∷ 2 ∷ 4 ∷ 6 ∷ 1 ∷ []) ≡ Book (counted Pls))
+    × (countersOf (7 ∷ 1 ∷ 2 ∷ 4 ∷ 6 ∷ 2 ∷ []) ≡ NoBook)
+    × (countersOf (7 ∷ 1 ∷ 2 ∷ 4 ∷ 6 ∷ 18446744073709551615 ∷ []) ≡ NoBook)
+    × (freshWords 0 ≡ 1 ∷ 0 ∷ 0 ∷ 0 ∷ 0 ∷ 0 ∷ [])
+    × (freshWords 1 ≡ 1 ∷ 0 ∷ 0 ∷ 0 ∷ 0 ∷ 1 ∷ [])
+    × (freshWords 2 ≡ 1 ∷ 0 ∷ 0 ∷ 0 ∷ 0 ∷ 2 ∷ [])
+unfolding editionNamed counterWords countersOf freshWords
+counter-words = (refl, refl, refl, refl, refl, refl, refl, refl)

@@ -1,6 +1,10 @@
 // Counters and a row as words of 64 bits, as a program of another language passes them. Which word is which is said in
 // `specs/Words.antt`; the numbers here are held to it.
 use counters::Counters;
+use counters::Start;
+use editions::Edition;
+use editions::Named;
+use editions::edition_of;
 use figures::Price;
 use numbers::number8;
 use rows::Reported;
@@ -11,22 +15,35 @@ ghost use mathlib.Core.Bool.{cond};
 ghost use lib.ListN.{length};
 ghost use Rattle.words.specs.Words as W;
 
+// What words are: the counters of a book, or no book's words, because the last of them is no edition's number.
+pub enum Meant {
+    Book(Counters),
+    NoBook,
+}
+
 // How many words the counters are, and how many a row is.
-pub const COUNTERS: usize = 5;
+pub const COUNTERS: usize = 6;
 
 pub const ROW: usize = 15;
 
-// The counters that the words are. There are as many words as the counters have.
-pub fn counters(w: [u64; COUNTERS]) -> Counters
-    ensures counters { λ c. ⌜ c ≡ W.countersOf w ⌝ }
-    ensures count { λ c. ⌜ length w ≡ W.counterCount ⌝ }
+// Which of the counters' words is the edition's number.
+const EDITION: usize = 5;
+
+// What the words are. There are as many words as the counters have.
+pub fn counters(w: [u64; COUNTERS]) -> Meant
+    ensures counters { λ m. ⌜ m ≡ W.countersOf w ⌝ }
+    ensures count { λ m. ⌜ length w ≡ W.counterCount ⌝ }
 {
-    Counters {
-        wanted: w[0],
-        phase: w[1],
-        rows: w[2] as usize,
-        lines: w[3] as usize,
-        taken: w[4],
+    match edition_of(w[EDITION]) {
+        Named::Known(e) => Meant::Book(Counters {
+            start: Start { edition: e },
+            wanted: w[0],
+            phase: w[1],
+            rows: w[2] as usize,
+            lines: w[3] as usize,
+            taken: w[4],
+        }),
+        Named::Unknown => Meant::NoBook,
     }
 }
 
@@ -34,7 +51,18 @@ pub fn counters(w: [u64; COUNTERS]) -> Counters
 pub fn put_counters(w: &mut [u64; COUNTERS], c: Counters)
     ensures { λ _. ⌜ now (w .exit) ≡ W.counterWords c ⌝ }
 {
-    *w = [c.wanted, c.phase, c.rows as u64, c.lines as u64, c.taken];
+    let start = c.start;
+    let edition = start.edition;
+    let n = editions::number(edition);
+    *w = [c.wanted, c.phase, c.rows as u64, c.lines as u64, c.taken, n];
+}
+
+// The words of a fresh book with a number in the edition's place, be it an edition's or not.
+pub fn put_fresh(w: &mut [u64; COUNTERS], edition: u64)
+    ensures { λ _. ⌜ now (w .exit) ≡ W.freshWords edition ⌝ }
+{
+    put_counters(w, counters::fresh(Edition::NlsPlus));
+    w[EDITION] = edition;
 }
 
 fn price_mark(p: Price) -> u64

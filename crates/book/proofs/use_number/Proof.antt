@@ -5,13 +5,18 @@ use native.Mathlib.Omega.{arith}
 use lib.ListN.{length}
 use Rattle.sound.specs.Sound.{sound}
 use Rattle.table.proofs.Tables.{number-wanted}
+use Rattle.book.specs.State.{State, lent}
 use Rattle.book.proofs.Steps.{refused-here, taken-here}
 use borrow.Author.Needs.{needs}
 use Rattle.book.proofs.use_number.Statement.{statement}
 use Rattle.book.proofs.use_number.Tie as tie
 
 abbrev start : tie.After-read → tie.Start
-start c = c .before .before .before .before
+start c = c .before .before .before .before .before
+
+-- what the call is lent
+abbrev from : tie.Start → State
+from s = lent (s .args .c) (s .args .rows .now) (s .args .lines .now)
 
 read-requires : tie.Need-read-requires
 read-requires c κs = search needs
@@ -39,7 +44,8 @@ returns c =
     let judged = c .before .before .before in
     let kinded = judged .before .before .before in
     let got = kinded .before .before in
-    refused-here _ _ (number-wanted _ _ _ .0 (start got .pre)) _ (got .read .ensures) _ (kinded .kind-of .ensures) _
+    refused-here (from (start got)) (start got .args .message .now) (number-wanted _ _ _ .0 (start got .pre)) _
+    (got .read .ensures) _ (kinded .kind-of .ensures) _
     (judged .judge .ensures) (λ e. c .before .if1 .taken (c .before .before .number .ensures ∙ e)) _ (c .use-up .ensures)
 
 cast-take-lines : tie.Need-cast-take-lines
@@ -73,7 +79,8 @@ returns-2 c =
     let judged = taken .before .before in
     let kinded = judged .before .before .before in
     let got = kinded .before .before in
-    taken-here _ _ (number-wanted _ _ _ .0 (start got .pre)) _ (got .read .ensures) _ (kinded .kind-of .ensures) _
+    taken-here (from (start got)) (start got .args .message .now) (number-wanted _ _ _ .0 (start got .pre)) _
+    (got .read .ensures) _ (kinded .kind-of .ensures) _
     (judged .judge .ensures) (sym (taken .before .number .ensures) ∙ taken .if1 .left) _ _ _ (c .take .ensures)
     (kept .take-rows .ensures) (put .take-lines .ensures)
 

@@ -1,14 +1,12 @@
 -- `sizes::size` meets its contract.
 -- Assumes nothing.
 use Prim.Native.Nat.{ℕ, _+_, _≤_}
-use mathlib.Core.Path.{_≡_, sym, ap, _∙_}
+use mathlib.Core.Path.{_≡_, sym, _∙_}
 use native.Mathlib.Omega.{arith}
-use Rattle.packing.specs.Packing.{lengthOf}
-use Rattle.packing.proofs.Lengths.{longest-is}
 use Rattle.records.specs.Packed.{packed}
 use Rattle.words.specs.Words.{counterWords}
 use Rattle.sizes.specs.Sizes.{sizeOf}
-use Rattle.sizes.proofs.Sizes.{size-type}
+use Rattle.sizes.proofs.Sizes.{longest-is, size-type}
 use borrow.Author.Needs.{needs}
 use Rattle.sizes.proofs.size.Statement.{statement}
 use Rattle.sizes.proofs.size.Tie as tie
@@ -37,14 +35,11 @@ past c =
     let p6 = up w 6 p5 (r6 .1) in
     up w 7 p6 (r7 .1)
 
-sub-kind-at : tie.Need-sub-kind-at
-sub-kind-at c = past c
+sub-length-at : tie.Need-sub-length-at
+sub-length-at c = past c
 
-kind-at-requires : tie.Need-kind-at-requires
-kind-at-requires c κs = search needs
-
-length-of-requires : tie.Need-length-of-requires
-length-of-requires c κs = search needs
+length-at-requires : tie.Need-length-at-requires
+length-at-requires c κs = search needs
 
 returns : tie.Need-returns
 unfolding sizeOf
@@ -79,17 +74,14 @@ unfolding sizeOf
 returns-8 c = rw (c .match .keys8)
 
 returns-9 : tie.Need-returns-9
-returns-9 c =
-    let there = c .before .before in
-    c .length-of .ensures ∙ ap lengthOf (c .before .kind-at .ensures) ∙ size-type (there .before .args .which) (past there)
+returns-9 c = c .length-at .ensures ∙ size-type (c .before .before .args .which) (past (c .before))
 
 pub size-spec : {M : Type 1} → statement M
 size-spec =
     tie.close
     (tie.spec
-    sub-kind-at
-    kind-at-requires
-    length-of-requires
+    sub-length-at
+    length-at-requires
     returns
     returns-2
     returns-3

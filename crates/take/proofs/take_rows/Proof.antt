@@ -1,62 +1,33 @@
 -- `take::take_rows` meets its contract.
 -- Assumes nothing.
 use mathlib.Core.Path.{sym, _∙_}
-use Rattle.take.proofs.Laws.{rows-summed, rows-reported, rows-left}
+use Rattle.take.proofs.Laws.{rows-of-reporting, rows-kept}
 use borrow.Author.Needs.{needs}
 use Rattle.take.proofs.take_rows.Statement.{statement}
 use Rattle.take.proofs.take_rows.Tie as tie
 
-is-summary-requires : tie.Need-is-summary-requires
-is-summary-requires c κs = search needs
+does-report-requires : tie.Need-does-report-requires
+does-report-requires c κs = search needs
 
-summarise-requires : tie.Need-summarise-requires
-summarise-requires c κs = search needs
+report-requires : tie.Need-report-requires
+report-requires c κs = search needs
 
 same-length : tie.Need-same-length
 same-length c = search needs
 
 returns : tie.Need-returns
 returns c =
-    let sums = c .before .before .before .before in
-    let a = sums .before .before .before .args in
-    c .before .before .summarise .ensures
-    ∙ rows-summed (a .kind) (a .rows .now) (a .r) (a .i) (sym (sums .before .is-summary .ensures) ∙ sums .if1 .taken)
-
-sets-volume-requires : tie.Need-sets-volume-requires
-sets-volume-requires c κs = search needs
-
-report-requires : tie.Need-report-requires
-report-requires c κs = search needs
-
-same-length-2 : tie.Need-same-length-2
-same-length-2 c = search needs
+    let asked = c .before .before .before .before in
+    let a = asked .before .before .before .args in
+    c .before .before .report .ensures
+    ∙ rows-of-reporting (a .kind) (a .rows .now) (a .r) (a .i) (a .edition)
+    (sym (asked .before .does-report .ensures) ∙ asked .if1 .taken)
 
 returns-2 : tie.Need-returns-2
 returns-2 c =
-    let sets = c .before .before .before .before in
-    let sums = sets .before .before in
-    let a = sums .before .before .before .args in
-    c .before .before .report .ensures
-    ∙ rows-reported (a .kind) (a .rows .now) (a .r) (a .i) (sym (sums .before .is-summary .ensures) ∙ sums .if1 .left)
-    (sym (sets .before .sets-volume .ensures) ∙ sets .if2 .taken)
-
-returns-3 : tie.Need-returns-3
-returns-3 c =
-    let sums = c .before .before in
-    let a = sums .before .before .before .args in
-    rows-left (a .kind) (a .rows .now) (a .r) (a .i) (sym (sums .before .is-summary .ensures) ∙ sums .if1 .left)
-    (sym (c .before .sets-volume .ensures) ∙ c .if2 .left)
+    let a = c .before .before .before .args in
+    sym
+    (rows-kept (a .kind) (a .rows .now) (a .r) (a .i) (a .edition) (sym (c .before .does-report .ensures) ∙ c .if1 .left))
 
 pub take-rows-spec : {M : Type 1} → statement M
-take-rows-spec =
-    tie.close
-    (tie.spec
-    is-summary-requires
-    summarise-requires
-    same-length
-    returns
-    sets-volume-requires
-    report-requires
-    same-length-2
-    returns-2
-    returns-3)
+take-rows-spec = tie.close (tie.spec does-report-requires report-requires same-length returns returns-2)
