@@ -5,7 +5,7 @@
  * demands, which C does not: a pointer is never null, also where the length beside it is 0 (no room at all is the address of anything
  * and 0, not NULL and 0); and a piece that a call writes overlaps nothing else that the call is lent.
  *
- * The caller owns all memory: five words of counters, and two runs of bytes for rows and lines. Nothing is allocated, nothing is
+ * The caller owns all memory: six words of counters, and two runs of bytes for rows and lines. Nothing is allocated, nothing is
  * kept between calls, and no byte outside what was lent is read or written.
  */
 #ifndef SORUNDAPPA_H
@@ -41,15 +41,24 @@ enum sorundappa_answer {
     SORUNDAPPA_NO_SPACE = 18        /* writer: the lent space is shorter than the message */
 };
 
-/* The words of a book's counters. A phase is 0 before any event was taken, then 1 to 6 for O S Q M E C. The book is unsound, answer 17,
- * if the wanted number is 0 or above 4,294,967,296, the phase above 6, more rows or lines are used than the rooms that are lent hold
- * (whole cells only, and at most 256 and 65,536), or as many messages are taken as the wanted number or more. */
+/* The editions of the feed: which layouts messages have. A book is started for one, and reads its messages by no other. */
+enum sorundappa_edition {
+    SORUNDAPPA_NLS_PLUS = 0, /* NLS Plus 2.0, in binary: S, T, X, C and J */
+    SORUNDAPPA_PLS = 1       /* PLS 1.1, in ASCII: S, T, X and C, without a consolidated volume */
+};
+
+/* The words of a book's counters. A phase is 0 before any event was taken, then 1 to 6 for O S Q M E C. The edition stays what the book was
+ * started with. The book is unsound, answer 17, if the wanted number is 0 or above 4,294,967,296, the phase above 6, more rows or lines are
+ * used than the rooms that are lent hold (whole cells only, and at most 256 and 65,536), or as many messages are taken as the wanted number
+ * or more. Words with a number in the edition's place that is no edition's are no book's: every call on them answers 17 too, and nothing
+ * changes. */
 enum sorundappa_counter {
     SORUNDAPPA_WANTED,
     SORUNDAPPA_PHASE,
     SORUNDAPPA_ROWS,
     SORUNDAPPA_LINES,
-    SORUNDAPPA_TAKEN
+    SORUNDAPPA_TAKEN,
+    SORUNDAPPA_EDITION
 };
 
 /* The words of a row. A HAS word is 1 where the figure behind it is there, and 0, with a figure of 0, where it is absent. Prices
@@ -69,11 +78,11 @@ enum sorundappa_figure {
     SORUNDAPPA_COUNT,   /* how many live lines there are */
     SORUNDAPPA_AGREES,  /* 1 if a J was taken and the latest one's high and low are the row's, an absent one counting as 0; otherwise 0 */
     SORUNDAPPA_HAS_REPORTED,
-    SORUNDAPPA_REPORTED /* the consolidated volume that a taken T, X, C or J reported last */
+    SORUNDAPPA_REPORTED /* the consolidated volume that a taken T, X, C or J of NLS Plus reported last */
 };
 
-/* Where each field stands in a record's bytes; numbers are big-endian, a field that the type lacks is zero. A trade is control 10,
- * price 4, size 4, condition 4. */
+/* Where each field stands in a record's bytes; numbers are big-endian, a field that the type lacks in its edition is zero. A trade is
+ * control 10, price 4, size 4, condition 4. */
 enum sorundappa_field {
     SORUNDAPPA_LETTER_AT = 0,
     SORUNDAPPA_TIME_AT = 1,
@@ -103,24 +112,33 @@ enum sorundappa_which {
     SORUNDAPPA_SIZE_T,
     SORUNDAPPA_SIZE_X,
     SORUNDAPPA_SIZE_C,
-    SORUNDAPPA_SIZE_J
+    SORUNDAPPA_SIZE_J,
+    SORUNDAPPA_SIZE_PLS_S,
+    SORUNDAPPA_SIZE_PLS_T,
+    SORUNDAPPA_SIZE_PLS_X,
+    SORUNDAPPA_SIZE_PLS_C
 };
 #define SORUNDAPPA_ROW_BYTES 30       /* of a row's cell */
 #define SORUNDAPPA_MOST_ROWS 256
 #define SORUNDAPPA_LINE_BYTES 40      /* of a line's cell */
 #define SORUNDAPPA_MOST_LINES 65536
-#define SORUNDAPPA_LONGEST_MESSAGE 67
+#define SORUNDAPPA_LONGEST_MESSAGE 85
 #define SORUNDAPPA_RECORD 80          /* bytes of a record */
-#define SORUNDAPPA_COUNTERS 5         /* words of a book's counters */
+#define SORUNDAPPA_COUNTERS 6         /* words of a book's counters */
 #define SORUNDAPPA_FIGURES 15         /* words of a row */
-#define SORUNDAPPA_S_BYTES 6          /* of a message of type S, and so on */
+#define SORUNDAPPA_S_BYTES 6          /* of a message of type S of NLS Plus, and so on */
 #define SORUNDAPPA_T_BYTES 45
 #define SORUNDAPPA_X_BYTES 45
 #define SORUNDAPPA_C_BYTES 67
 #define SORUNDAPPA_J_BYTES 34
+#define SORUNDAPPA_PLS_S_BYTES 10     /* of a message of type S of PLS, and so on */
+#define SORUNDAPPA_PLS_T_BYTES 52
+#define SORUNDAPPA_PLS_X_BYTES 52
+#define SORUNDAPPA_PLS_C_BYTES 85
 
-/* Makes the counters those of a fresh book. What stands in the rooms is not read until it is written. */
-void sorundappa_start(uint64_t counters[SORUNDAPPA_COUNTERS]);
+/* Makes the counters those of a fresh book of an edition; of a number that is no edition's, words that are no book's. What stands in the
+ * rooms is not read until it is written. */
+void sorundappa_start(uint64_t counters[SORUNDAPPA_COUNTERS], uint64_t edition);
 
 /* Lists a symbol with its adjusted previous close. A symbol is one or more bytes 33 to 126, then spaces to the end: one that is
  * padded with NUL gets 13. A close is at most 2,000,000,000, and an unknown one is given as 0. Answers 0, and a row was added at the
@@ -137,14 +155,16 @@ uint8_t sorundappa_deliver(uint64_t counters[SORUNDAPPA_COUNTERS], uint8_t *rows
 uint8_t sorundappa_row(const uint64_t counters[SORUNDAPPA_COUNTERS], const uint8_t *rows, size_t rows_bytes, const uint8_t *lines,
                        size_t lines_bytes, const uint8_t symbol[8], uint64_t row[SORUNDAPPA_FIGURES]);
 
-/* Reads a message alone. Answers 0; or 4 or 5, and every byte of the record is 0. */
-uint8_t sorundappa_read(const uint8_t *message, size_t message_bytes, uint8_t record[SORUNDAPPA_RECORD]);
+/* Reads a message alone, by an edition. Answers 0; or 4 or 5, and every byte of the record is 0. A number that is no edition's gets 4. */
+uint8_t sorundappa_read(uint64_t edition, const uint8_t *message, size_t message_bytes, uint8_t record[SORUNDAPPA_RECORD]);
 
-/* Writes a record's message to the front of out. Answers 0, and the bytes past the message stay as they were; or 5 or 18, and all of
- * out stays as it was. Where both apply it is 5. */
-uint8_t sorundappa_write(const uint8_t record[SORUNDAPPA_RECORD], uint8_t *out, size_t out_bytes);
+/* Writes a record's message by an edition to the front of out. Answers 0, and the bytes past the message stay as they were; or 5 or 18,
+ * and all of out stays as it was. Where both apply it is 5. A number that is no edition's gets 5. PLS reads numbers with leading zeros
+ * and writes them without: the record of a message that was read always comes back, its bytes only where they are in the form that is
+ * written. */
+uint8_t sorundappa_write(uint64_t edition, const uint8_t record[SORUNDAPPA_RECORD], uint8_t *out, size_t out_bytes);
 
-/* One of the thirteen sizes above, as the linked library has it; 0 for any other which. */
+/* One of the seventeen sizes above, as the linked library has it; 0 for any other which. */
 uint64_t sorundappa_size(uint64_t which);
 
 #ifdef __cplusplus

@@ -1,5 +1,5 @@
-/* The library as a C program links it: document 01's day W, then rows, listings, messages, rooms and records of other kinds. The
- * messages are laid out here, from document 01's table of layouts, and every name of the header is held against the library. */
+/* The library as a C program links it: document 01's day W, then rows, listings, messages, rooms and records of other kinds, and those of
+ * PLS. The messages are laid out here, from the documents' tables of layouts, and every name of the header is held against the library. */
 #include <inttypes.h>
 #include <stdint.h>
 #include <stdio.h>
@@ -30,7 +30,7 @@ static void expect_bytes(const char *when, const char *what, const uint8_t *is, 
     }
 }
 
-/* ---- messages */
+/* ---- messages of NLS Plus, and further down of PLS */
 
 struct message {
     uint8_t bytes[SORUNDAPPA_LONGEST_MESSAGE];
@@ -157,7 +157,7 @@ static struct book no_book(size_t rows, size_t lines)
 static struct book fresh_book(size_t rows, size_t lines)
 {
     struct book b = no_book(rows, lines);
-    sorundappa_start(b.counters);
+    sorundappa_start(b.counters, SORUNDAPPA_NLS_PLUS);
     return b;
 }
 
@@ -241,6 +241,7 @@ static void expect_counters(const char *when, const struct book *b, uint64_t wan
     expect(when, "the rows used", b->counters[SORUNDAPPA_ROWS], rows);
     expect(when, "the lines used", b->counters[SORUNDAPPA_LINES], lines);
     expect(when, "the messages taken", b->counters[SORUNDAPPA_TAKEN], taken);
+    expect(when, "the edition", b->counters[SORUNDAPPA_EDITION], SORUNDAPPA_NLS_PLUS);
 }
 
 /* ---- the sizes */
@@ -264,7 +265,11 @@ static void try_sizes(void)
         {"a message of type X", SORUNDAPPA_SIZE_X, SORUNDAPPA_X_BYTES},
         {"a message of type C", SORUNDAPPA_SIZE_C, SORUNDAPPA_C_BYTES},
         {"a message of type J", SORUNDAPPA_SIZE_J, SORUNDAPPA_J_BYTES},
-        {"past the last", SORUNDAPPA_SIZE_J + 1, 0},
+        {"a message of type S of PLS", SORUNDAPPA_SIZE_PLS_S, SORUNDAPPA_PLS_S_BYTES},
+        {"a message of type T of PLS", SORUNDAPPA_SIZE_PLS_T, SORUNDAPPA_PLS_T_BYTES},
+        {"a message of type X of PLS", SORUNDAPPA_SIZE_PLS_X, SORUNDAPPA_PLS_X_BYTES},
+        {"a message of type C of PLS", SORUNDAPPA_SIZE_PLS_C, SORUNDAPPA_PLS_C_BYTES},
+        {"past the last", SORUNDAPPA_SIZE_PLS_C + 1, 0},
         {"the greatest there is", UINT64_MAX, 0},
     };
     for (size_t i = 0; i < sizeof sizes / sizeof sizes[0]; i++) {
@@ -375,7 +380,7 @@ static void try_listings(void)
     const struct message event = event_message(1000, "O");
     struct book b = no_book(1, 1);
     expect("no book yet", "the answer to a listing", list(&b, abcd, 250000), SORUNDAPPA_UNSOUND);
-    sorundappa_start(b.counters);
+    sorundappa_start(b.counters, SORUNDAPPA_NLS_PLUS);
     expect_counters("a fresh book", &b, 1, 0, 0, 0, 0);
     expect("a symbol padded with NUL", "the answer to its listing", list(&b, nul, 1), SORUNDAPPA_LISTING_BROKEN);
     expect("a symbol of spaces", "the answer to its listing", list(&b, spaces, 1), SORUNDAPPA_LISTING_BROKEN);
@@ -483,43 +488,43 @@ static void try_no_length(void)
 
 /* ---- records: read, held byte by byte against what the header's offsets make, and written again */
 
-static void expect_read(const char *when, const struct message *m, const uint8_t wanted[SORUNDAPPA_RECORD])
+static void expect_read(const char *when, uint64_t edition, const struct message *m, const uint8_t wanted[SORUNDAPPA_RECORD])
 {
     const uint8_t zeros[SORUNDAPPA_RECORD] = {0};
     uint8_t record[SORUNDAPPA_RECORD];
     memset(record, 255, sizeof record);
-    expect(when, "the answer to reading", sorundappa_read(m->bytes, m->length, record), SORUNDAPPA_DONE);
+    expect(when, "the answer to reading", sorundappa_read(edition, m->bytes, m->length, record), SORUNDAPPA_DONE);
     expect_bytes(when, "the record", record, wanted, sizeof record);
-    expect(when, "the answer to reading it cut short", sorundappa_read(m->bytes, m->length - 1, record), SORUNDAPPA_NO_TYPE);
+    expect(when, "the answer to reading it cut short", sorundappa_read(edition, m->bytes, m->length - 1, record), SORUNDAPPA_NO_TYPE);
     expect_bytes(when, "the record of it cut short", record, zeros, sizeof record);
     memset(record, 255, sizeof record);
-    expect(when, "the answer to reading nothing", sorundappa_read(m->bytes, 0, record), SORUNDAPPA_NO_TYPE);
+    expect(when, "the answer to reading nothing", sorundappa_read(edition, m->bytes, 0, record), SORUNDAPPA_NO_TYPE);
     expect_bytes(when, "the record of nothing", record, zeros, sizeof record);
 }
 
-static void expect_written(const char *when, const struct message *m, uint8_t record[SORUNDAPPA_RECORD])
+static void expect_written(const char *when, uint64_t edition, const struct message *m, uint8_t record[SORUNDAPPA_RECORD])
 {
     const uint8_t time = record[SORUNDAPPA_TIME_AT];
     uint8_t out[SORUNDAPPA_LONGEST_MESSAGE + 1], untouched[sizeof out];
     memset(out, 255, sizeof out);
     memset(untouched, 255, sizeof out);
-    expect(when, "the answer to writing into nothing", sorundappa_write(record, out, 0), SORUNDAPPA_NO_SPACE);
-    expect(when, "the answer to writing into too little", sorundappa_write(record, out, m->length - 1), SORUNDAPPA_NO_SPACE);
+    expect(when, "the answer to writing into nothing", sorundappa_write(edition, record, out, 0), SORUNDAPPA_NO_SPACE);
+    expect(when, "the answer to writing into too little", sorundappa_write(edition, record, out, m->length - 1), SORUNDAPPA_NO_SPACE);
     record[SORUNDAPPA_TIME_AT] = 255;
-    expect(when, "the answer to writing a wrong time", sorundappa_write(record, out, sizeof out), SORUNDAPPA_FIELD_BROKEN);
-    expect(when, "the answer to both", sorundappa_write(record, out, 0), SORUNDAPPA_FIELD_BROKEN);
+    expect(when, "the answer to writing a wrong time", sorundappa_write(edition, record, out, sizeof out), SORUNDAPPA_FIELD_BROKEN);
+    expect(when, "the answer to both", sorundappa_write(edition, record, out, 0), SORUNDAPPA_FIELD_BROKEN);
     record[SORUNDAPPA_TIME_AT] = time;
     expect_bytes(when, "what was not written", out, untouched, sizeof out);
-    expect(when, "the answer to writing", sorundappa_write(record, out, sizeof out), SORUNDAPPA_DONE);
+    expect(when, "the answer to writing", sorundappa_write(edition, record, out, sizeof out), SORUNDAPPA_DONE);
     expect_bytes(when, "what was written", out, m->bytes, m->length);
     expect_bytes(when, "what is past it", out + m->length, untouched, sizeof out - m->length);
 }
 
-static void expect_record(const char *when, const struct message *m, size_t length, uint8_t record[SORUNDAPPA_RECORD])
+static void expect_record(const char *when, uint64_t edition, const struct message *m, size_t length, uint8_t record[SORUNDAPPA_RECORD])
 {
     expect(when, "its length", m->length, length);
-    expect_read(when, m, record);
-    expect_written(when, m, record);
+    expect_read(when, edition, m, record);
+    expect_written(when, edition, m, record);
 }
 
 static void store_trade(uint8_t *at, const struct trade *t)
@@ -542,7 +547,7 @@ static void try_records(void)
     record[SORUNDAPPA_LETTER_AT] = 'S';
     store(record + SORUNDAPPA_TIME_AT, time, 4);
     record[SORUNDAPPA_EVENT_AT] = 'M';
-    expect_record("an S", &s, SORUNDAPPA_S_BYTES, record);
+    expect_record("an S", SORUNDAPPA_NLS_PLUS, &s, SORUNDAPPA_S_BYTES, record);
     record[SORUNDAPPA_LETTER_AT] = 'T';
     record[SORUNDAPPA_EVENT_AT] = 0;
     record[SORUNDAPPA_CENTRE_AT] = 'L';
@@ -550,12 +555,12 @@ static void try_records(void)
     record[SORUNDAPPA_CLASS_AT] = 'Q';
     store_trade(record + SORUNDAPPA_SALE_AT, &l1);
     store(record + SORUNDAPPA_CONSOLIDATED_AT, volume, 8);
-    expect_record("a T", &t, SORUNDAPPA_T_BYTES, record);
+    expect_record("a T", SORUNDAPPA_NLS_PLUS, &t, SORUNDAPPA_T_BYTES, record);
     record[SORUNDAPPA_LETTER_AT] = 'X';
-    expect_record("an X", &x, SORUNDAPPA_X_BYTES, record);
+    expect_record("an X", SORUNDAPPA_NLS_PLUS, &x, SORUNDAPPA_X_BYTES, record);
     record[SORUNDAPPA_LETTER_AT] = 'C';
     store_trade(record + SORUNDAPPA_NEW_AT, &q9);
-    expect_record("a C", &c, SORUNDAPPA_C_BYTES, record);
+    expect_record("a C", SORUNDAPPA_NLS_PLUS, &c, SORUNDAPPA_C_BYTES, record);
 }
 
 static void try_summary_record(void)
@@ -572,7 +577,99 @@ static void try_summary_record(void)
     store(record + SORUNDAPPA_LOW_AT, low, 4);
     store(record + SORUNDAPPA_CLOSE_AT, close, 4);
     store(record + SORUNDAPPA_CONSOLIDATED_AT, volume, 8);
-    expect_record("a J", &j, SORUNDAPPA_J_BYTES, record);
+    expect_record("a J", SORUNDAPPA_NLS_PLUS, &j, SORUNDAPPA_J_BYTES, record);
+}
+
+/* ---- PLS: a text of its own, laid out from document 02 and the pages that it names */
+
+static struct message text_message(const char *text)
+{
+    struct message m = {{0}, 0};
+    put_text(&m, text, strlen(text));
+    return m;
+}
+
+/* A trade, its cancel with leading zeros, and a correction, read, written and delivered. */
+static const char pls_t[] = "34200000TXABCD    Q1             251000      100@   ";
+static const char pls_x_zeros[] = "34200000XXABCD    Q1         0000251000  0000100@   ";
+static const char pls_x[] = "34200000XXABCD    Q1             251000      100@   ";
+static const char pls_c[] = "34200000CXABCD    Q1             251000      100@   9             252500      120@   ";
+
+static void try_pls_records(void)
+{
+    const struct trade p1 = {"1", 251000, 100, "@   "};
+    const struct message s = text_message("       0SO"), t = text_message(pls_t), x = text_message(pls_x), c = text_message(pls_c);
+    const struct message zeros = text_message("00000000SO"), x_zeros = text_message(pls_x_zeros);
+    uint8_t record[SORUNDAPPA_RECORD] = {0};
+    record[SORUNDAPPA_LETTER_AT] = 'S';
+    record[SORUNDAPPA_EVENT_AT] = 'O';
+    expect_record("an S of PLS", SORUNDAPPA_PLS, &s, SORUNDAPPA_PLS_S_BYTES, record);
+    expect_read("an S of PLS with zeros", SORUNDAPPA_PLS, &zeros, record);
+    record[SORUNDAPPA_LETTER_AT] = 'T';
+    store(record + SORUNDAPPA_TIME_AT, 34200000, 4);
+    record[SORUNDAPPA_EVENT_AT] = 0;
+    record[SORUNDAPPA_CENTRE_AT] = 'X';
+    memcpy(record + SORUNDAPPA_SYMBOL_AT, abcd, 8);
+    record[SORUNDAPPA_CLASS_AT] = 'Q';
+    store_trade(record + SORUNDAPPA_SALE_AT, &p1);
+    expect_record("a T of PLS", SORUNDAPPA_PLS, &t, SORUNDAPPA_PLS_T_BYTES, record);
+    record[SORUNDAPPA_LETTER_AT] = 'X';
+    expect_record("an X of PLS", SORUNDAPPA_PLS, &x, SORUNDAPPA_PLS_X_BYTES, record);
+    expect_read("an X of PLS with zeros", SORUNDAPPA_PLS, &x_zeros, record);
+    record[SORUNDAPPA_LETTER_AT] = 'C';
+    store_trade(record + SORUNDAPPA_NEW_AT, &q9);
+    expect_record("a C of PLS", SORUNDAPPA_PLS, &c, SORUNDAPPA_PLS_C_BYTES, record);
+}
+
+/* Document 02's day of a PLS book, and a cancel that spells its trade with zeros. */
+static void try_pls_day(void)
+{
+    const struct figures traded = {LAST | HIGH_LOW | NET, 250000, 251000, 251000, 251000, 1000, 100, 1, 0, 0};
+    const struct figures none = {.close = 250000};
+    const struct message of_nls_plus = event_message(1000, "O");
+    struct book b = no_book(1, 4);
+    sorundappa_start(b.counters, SORUNDAPPA_PLS);
+    expect("ABCD, PLS", "the answer to its listing", list(&b, abcd, 250000), SORUNDAPPA_DONE);
+    expect("an S of NLS Plus", "the answer", deliver(&b, 1, &of_nls_plus), SORUNDAPPA_NO_TYPE);
+    take("an S of PLS", &b, text_message("       0SO"));
+    take("a T of PLS", &b, text_message(pls_t));
+    expect_row("after a T of PLS", &b, &traded);
+    expect("after a T of PLS", "the wanted number", b.counters[SORUNDAPPA_WANTED], 4);
+    expect("after a T of PLS", "the messages taken", b.counters[SORUNDAPPA_TAKEN], 2);
+    take("an X of PLS", &b, text_message(pls_x_zeros));
+    expect_row("after an X of PLS", &b, &none);
+    expect("after the day", "the edition", b.counters[SORUNDAPPA_EDITION], SORUNDAPPA_PLS);
+}
+
+/* Numbers that are no edition's: no call on such words changes anything. */
+static void try_no_edition(void)
+{
+    const uint64_t strange[] = {2, 256, UINT64_C(4294967296), UINT64_MAX};
+    const uint8_t zeros[SORUNDAPPA_RECORD] = {0};
+    const struct message event = event_message(1000, "O");
+    uint8_t record[SORUNDAPPA_RECORD], out[8], untouched[8];
+    memset(untouched, 255, sizeof untouched);
+    for (size_t i = 0; i < sizeof strange / sizeof strange[0]; i++) {
+        struct book b = no_book(1, 1), before;
+        sorundappa_start(b.counters, strange[i]);
+        expect("no edition", "its word", b.counters[SORUNDAPPA_EDITION], strange[i]);
+        before = b;
+        expect("no edition", "the answer to a listing", list(&b, abcd, 1), SORUNDAPPA_UNSOUND);
+        expect("no edition", "the answer", deliver(&b, 1, &event), SORUNDAPPA_UNSOUND);
+        expect_no_row("no edition", &b, abcd, SORUNDAPPA_UNSOUND);
+        expect_bytes("no edition", "the counters", (const uint8_t *)b.counters, (const uint8_t *)before.counters, sizeof b.counters);
+        expect_bytes("no edition", "the rows", b.rows, before.rows, sizeof b.rows);
+        expect_bytes("no edition", "the lines", b.lines, before.lines, sizeof b.lines);
+        memset(record, 255, sizeof record);
+        expect("no edition", "the answer to reading", sorundappa_read(strange[i], event.bytes, event.length, record),
+               SORUNDAPPA_NO_TYPE);
+        expect_bytes("no edition", "the record", record, zeros, sizeof record);
+        memset(out, 255, sizeof out);
+        expect("an event", "the answer to reading", sorundappa_read(SORUNDAPPA_NLS_PLUS, event.bytes, event.length, record),
+               SORUNDAPPA_DONE);
+        expect("no edition", "the answer to writing", sorundappa_write(strange[i], record, out, sizeof out), SORUNDAPPA_FIELD_BROKEN);
+        expect_bytes("no edition", "what was not written", out, untouched, sizeof out);
+    }
 }
 
 int main(void)
@@ -588,6 +685,9 @@ int main(void)
     try_no_length();
     try_records();
     try_summary_record();
+    try_pls_records();
+    try_pls_day();
+    try_no_edition();
     try_sizes();
     printf("from C: %u checks\n", checks);
     return 0;

@@ -1,7 +1,9 @@
 //! One book kept twice, by the linked library and by `plain`. Every call goes to both, and what it says back, the counters, both
-//! rooms and the strips around them have to be as they must.
+//! rooms and the strips around them have to be as they must. A number that is no edition's the library alone can be given: then what
+//! the paper says is held against it.
 use crate::guard::Guarded;
-use plain::Counters;
+use chance::Counts;
+use plain::{Answer, Counters, Edition};
 use sorundappa::raw;
 
 /// A difference, in words.
@@ -13,6 +15,8 @@ pub struct Both {
     rows: Guarded<u8>,
     lines: Guarded<u8>,
     plain: Counters,
+    // The edition's word, where it is no edition's number: every call is then answered 17, and nothing changes.
+    strange: Option<u64>,
     plain_rows: Vec<u8>,
     plain_lines: Vec<u8>,
     // How a run of bytes is lent.
@@ -21,8 +25,9 @@ pub struct Both {
     pub calls: u64,
 }
 
-fn words(c: &Counters) -> [u64; 5] {
-    [c.wanted, c.phase, c.rows, c.lines, c.taken]
+fn words(c: &Counters, strange: Option<u64>) -> [u64; 6] {
+    let edition = strange.unwrap_or(c.edition.number());
+    [c.wanted, c.phase, c.rows, c.lines, c.taken, edition]
 }
 
 fn same<T: PartialEq + std::fmt::Debug>(what: &str, linked: T, plain: T) -> Result<(), String> {
@@ -56,26 +61,32 @@ fn strips(what: &str, whole: bool) -> Result<(), String> {
 
 impl Both {
     /// A book with the given counters, over rooms of the given contents.
-    pub fn new(counters: Counters, rows: &[u8], lines: &[u8]) -> Both {
-        Both::lent(counters, rows, lines, Guarded::new)
+    pub fn new(counts: Counts, rows: &[u8], lines: &[u8]) -> Both {
+        Both::lent(counts, rows, lines, Guarded::new)
     }
 
     /// The same, but a room or a message without bytes is lent as Rust's own empty slice.
-    pub fn bare(counters: Counters, rows: &[u8], lines: &[u8]) -> Both {
-        Both::lent(counters, rows, lines, Guarded::bare)
+    pub fn bare(counts: Counts, rows: &[u8], lines: &[u8]) -> Both {
+        Both::lent(counts, rows, lines, Guarded::bare)
     }
 
-    fn lent(
-        counters: Counters,
-        rows: &[u8],
-        lines: &[u8],
-        lend: fn(&[u8], u8) -> Guarded<u8>,
-    ) -> Both {
+    fn lent(counts: Counts, rows: &[u8], lines: &[u8], lend: fn(&[u8], u8) -> Guarded<u8>) -> Both {
+        let known = Edition::of(counts.edition);
+        let strange = known.is_none().then_some(counts.edition);
+        let plain = Counters {
+            edition: known.unwrap_or(Edition::NlsPlus),
+            wanted: counts.wanted,
+            phase: counts.phase,
+            rows: counts.rows,
+            lines: counts.lines,
+            taken: counts.taken,
+        };
         Both {
-            counters: Guarded::new(&words(&counters), 0xA5A5_A5A5_A5A5_A5A5),
+            counters: Guarded::new(&words(&plain, strange), 0xA5A5_A5A5_A5A5_A5A5),
             rows: lend(rows, 0x5A),
             lines: lend(lines, 0xC3),
-            plain: counters,
+            plain,
+            strange,
             plain_rows: rows.to_vec(),
             plain_lines: lines.to_vec(),
             lend,
@@ -83,12 +94,12 @@ impl Both {
         }
     }
 
-    /// A fresh book, started by both, over rooms of the given contents.
-    pub fn fresh(rows: &[u8], lines: &[u8]) -> Result<Both, String> {
-        let any = Counters { wanted: 77, phase: 88, rows: 99, lines: 111, taken: 222 };
+    /// A fresh book, started by both by the number of an edition, or of none, over rooms of the given contents.
+    pub fn fresh(edition: u64, rows: &[u8], lines: &[u8]) -> Result<Both, String> {
+        let any = Counts { wanted: 77, phase: 88, rows: 99, lines: 111, taken: 222, edition };
         let mut both = Both::new(any, rows, lines);
-        raw::start(both.counters.array());
-        both.plain = plain::fresh();
+        raw::start(both.counters.array(), edition);
+        both.plain = plain::fresh(both.plain.edition);
         both.held("start")?;
         Ok(both)
     }
@@ -101,7 +112,8 @@ impl Both {
     // The counters and both rooms are the same on both sides, and the strips are whole.
     fn held(&mut self, call: &str) -> Result<(), String> {
         self.calls += 1;
-        same(&format!("{call}: counters"), self.counters.seen(), &words(&self.plain)[..])?;
+        let words = words(&self.plain, self.strange);
+        same(&format!("{call}: counters"), self.counters.seen(), &words[..])?;
         first_difference(&format!("{call}: rows"), self.rows.seen(), &self.plain_rows)?;
         first_difference(&format!("{call}: lines"), self.lines.seen(), &self.plain_lines)?;
         strips(call, self.counters.whole() && self.rows.whole() && self.lines.whole())
@@ -117,8 +129,12 @@ impl Both {
             name.seen().try_into().expect("eight bytes"),
             close,
         );
-        let plain =
-            plain::list(&mut self.plain, &mut self.plain_rows, &self.plain_lines, symbol, close);
+        let plain = match self.strange {
+            Some(_) => Answer::Unsound,
+            None => {
+                plain::list(&mut self.plain, &mut self.plain_rows, &self.plain_lines, symbol, close)
+            }
+        };
         same("list: answer", told, plain.number())?;
         unmoved("list: symbol", &symbol, &name)?;
         self.held("list")?;
@@ -135,13 +151,16 @@ impl Both {
             number,
             lent.seen(),
         );
-        let plain = plain::deliver(
-            &mut self.plain,
-            &mut self.plain_rows,
-            &mut self.plain_lines,
-            number,
-            message,
-        );
+        let plain = match self.strange {
+            Some(_) => Answer::Unsound,
+            None => plain::deliver(
+                &mut self.plain,
+                &mut self.plain_rows,
+                &mut self.plain_lines,
+                number,
+                message,
+            ),
+        };
         same("deliver: answer", told, plain.number())?;
         unmoved("deliver: message", message, &lent)?;
         self.held("deliver")?;
@@ -150,18 +169,31 @@ impl Both {
 
     /// Reads a row of both.
     pub fn row(&mut self, symbol: [u8; 8]) -> Held {
+        self.figures(symbol).map(|(told, _)| told)
+    }
+
+    /// Reads a row of both: the answer, and the words.
+    pub fn figures(&mut self, symbol: [u8; 8]) -> Result<(u8, [u64; 15]), String> {
         let mut figures = Guarded::new(&[u64::MAX; 15], 0x1234_5678_9ABC_DEF0);
         let name = Guarded::new(&symbol, 0x22);
-        let counters = self.counters.seen().try_into().expect("five words");
+        let counters = self.counters.seen().try_into().expect("six words");
         let lent = name.seen().try_into().expect("eight bytes");
         let told = raw::row(counters, self.rows.seen(), self.lines.seen(), lent, figures.array());
-        let (answer, row) = plain::row(&self.plain, &self.plain_rows, &self.plain_lines, symbol);
+        let (answer, row) = match self.strange {
+            Some(_) => (Answer::Unsound, plain::Row::default()),
+            None => plain::row(&self.plain, &self.plain_rows, &self.plain_lines, symbol),
+        };
         same("row: answer", told, answer.number())?;
         same("row: words", figures.seen(), &row_words(&row)[..])?;
         unmoved("row: symbol", &symbol, &name)?;
         strips("row", figures.whole())?;
         self.held("row")?;
-        Ok(told)
+        Ok((told, row_words(&row)))
+    }
+
+    /// The room for lines, as both have it.
+    pub fn lines(&self) -> &[u8] {
+        &self.plain_lines
     }
 }
 
@@ -245,20 +277,27 @@ fn part<const N: usize>(bytes: &[u8; 80], at: usize) -> [u8; N] {
     bytes[at..at + N].try_into().expect("as many bytes as the field has")
 }
 
-/// Reads a message alone on both; the record, if there is one.
-pub fn read(message: &[u8]) -> Result<(u8, plain::Record), String> {
-    read_lent(message, Guarded::new(message, 0x42))
+/// Reads a message alone on both by the number of an edition, or of none; the record, if there is one.
+pub fn read(edition: u64, message: &[u8]) -> Result<(u8, plain::Record), String> {
+    read_lent(edition, message, Guarded::new(message, 0x42))
 }
 
 /// Reads Rust's own empty slice on both.
-pub fn read_nothing() -> Held {
-    read_lent(&[], Guarded::bare(&[], 0x42)).map(|(told, _)| told)
+pub fn read_nothing(edition: u64) -> Held {
+    read_lent(edition, &[], Guarded::bare(&[], 0x42)).map(|(told, _)| told)
 }
 
-fn read_lent(message: &[u8], lent: Guarded<u8>) -> Result<(u8, plain::Record), String> {
+fn read_lent(
+    edition: u64,
+    message: &[u8],
+    lent: Guarded<u8>,
+) -> Result<(u8, plain::Record), String> {
     let mut record = Guarded::new(&[0xEE; 80], 0x99);
-    let told = raw::read(lent.seen(), record.array());
-    let (answer, found) = plain::read(message);
+    let told = raw::read(edition, lent.seen(), record.array());
+    let (answer, found) = match Edition::of(edition) {
+        Some(edition) => plain::read(edition, message),
+        None => (Answer::NoType, plain::Record::default()),
+    };
     same("read: answer", told, answer.number())?;
     first_difference("read: record", record.seen(), &bytes_of(&found))?;
     unmoved("read: message", message, &lent)?;
@@ -266,21 +305,24 @@ fn read_lent(message: &[u8], lent: Guarded<u8>) -> Result<(u8, plain::Record), S
     Ok((told, found))
 }
 
-/// Writes a record on both, into spaces of the given contents.
-pub fn write(record: &plain::Record, space: &[u8]) -> Held {
-    write_lent(record, space, Guarded::new(space, 0x77))
+/// Writes a record on both by the number of an edition, or of none, into spaces of the given contents.
+pub fn write(edition: u64, record: &plain::Record, space: &[u8]) -> Held {
+    write_lent(edition, record, space, Guarded::new(space, 0x77))
 }
 
 /// Writes a record on both, into Rust's own empty slice.
-pub fn write_nothing(record: &plain::Record) -> Held {
-    write_lent(record, &[], Guarded::bare(&[], 0x77))
+pub fn write_nothing(edition: u64, record: &plain::Record) -> Held {
+    write_lent(edition, record, &[], Guarded::bare(&[], 0x77))
 }
 
-fn write_lent(record: &plain::Record, space: &[u8], mut out: Guarded<u8>) -> Held {
+fn write_lent(edition: u64, record: &plain::Record, space: &[u8], mut out: Guarded<u8>) -> Held {
     let bytes = Guarded::new(&bytes_of(record), 0x66);
     let mut plain_out = space.to_vec();
-    let told = raw::write(bytes.seen().try_into().expect("eighty bytes"), out.lent());
-    let plain = plain::write(record, &mut plain_out);
+    let told = raw::write(edition, bytes.seen().try_into().expect("eighty bytes"), out.lent());
+    let plain = match Edition::of(edition) {
+        Some(edition) => plain::write(edition, record, &mut plain_out),
+        None => Answer::FieldBroken,
+    };
     same("write: answer", told, plain.number())?;
     first_difference("write: space", out.seen(), &plain_out)?;
     unmoved("write: record", &bytes_of(record), &bytes)?;

@@ -2,6 +2,7 @@
 //! to have a run again. Every lent slice has a strip before and behind it that must stay as it was; but for Rust's own empty ones.
 mod both;
 mod edges;
+mod editions;
 mod guard;
 mod records;
 mod runs;
@@ -12,15 +13,18 @@ use std::process::ExitCode;
 use std::time::{SystemTime, UNIX_EPOCH};
 use tally::Tally;
 
-const AT_LEAST: u64 = 350_000;
+const AT_LEAST: u64 = 500_000;
 
 type Kind = (&'static str, fn(&mut Dice, &mut Tally) -> Result<(), String>);
 
-const KINDS: [Kind; 12] = [
+const KINDS: [Kind; 15] = [
     ("sound days", runs::sound_days),
     ("lost, repeated and late copies", runs::bad_lines),
     ("a damaged byte at every offset", runs::damaged_bytes),
     ("every length from 0 to 100", runs::lengths),
+    ("numbers in digits", runs::spellings),
+    ("one day in both editions", editions::told_twice),
+    ("numbers that are no edition's", editions::strange_numbers),
     ("counters at every bound", runs::odd_books),
     ("rooms of up to two cells and a byte", runs::small_rooms),
     ("rooms of other contents", runs::other_contents),

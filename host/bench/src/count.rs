@@ -40,7 +40,7 @@ fn counted(call: &str, side: &str) -> Result<f64, Failed> {
 
 fn line(call: &str, columns: [&str; 4]) -> Result<(), Failed> {
     let [library, plain, ratio, limit] = columns;
-    let line = format!("{call:<17}{library:>10}{plain:>10}{ratio:>8}{limit:>8}");
+    let line = format!("{call:<19}{library:>10}{plain:>10}{ratio:>8}{limit:>8}");
     writeln!(io::stdout(), "{}", line.trim_end()).map_err(|why| match why.kind() {
         // nobody is there to be told
         ErrorKind::BrokenPipe => process::exit(1),

@@ -1,5 +1,5 @@
 //! The day that is measured: trades over some symbols, one message in fifty behind them a cancel.
-use sorundappa::{Record, Sale};
+use sorundappa::{Edition, Record, Sale};
 
 fn padded<const N: usize>(text: &str) -> [u8; N] {
     let mut out = [b' '; N];
@@ -39,15 +39,35 @@ fn trade(letter: u8, i: usize, symbols: usize) -> Record {
     }
 }
 
-fn bytes(record: Record) -> Vec<u8> {
-    let mut out = vec![0; 67];
-    let n = record.write(&mut out).expect("a lawful record");
+fn bytes_by(edition: Edition, record: Record) -> Vec<u8> {
+    let mut out = vec![0; 85];
+    let n = record.write(edition, &mut out).expect("a lawful record");
     out.truncate(n);
     out
 }
 
-/// One message of each type, by its letter.
-pub fn samples() -> Vec<(char, Vec<u8>)> {
+fn bytes(record: Record) -> Vec<u8> {
+    bytes_by(Edition::NlsPlus, record)
+}
+
+/// A message that is read and written by its edition.
+pub struct Sample {
+    pub edition: Edition,
+    pub letter: char,
+    pub bytes: Vec<u8>,
+}
+
+/// How the table names an edition's messages.
+pub fn name(edition: Edition) -> &'static str {
+    match edition {
+        Edition::NlsPlus => "",
+        Edition::Pls => "PLS",
+    }
+}
+
+/// One message of each type of NLS Plus, and the same but J of PLS.
+pub fn samples() -> Vec<Sample> {
+    let event = Record { letter: b'S', time: 34_200_000, event: b'Q', ..Record::default() };
     let t = trade(b'T', 1234, 200);
     let summary = Record {
         letter: b'J',
@@ -58,13 +78,20 @@ pub fn samples() -> Vec<(char, Vec<u8>)> {
         close: 250_000,
         ..Record::default()
     };
-    vec![
-        ('S', bytes(Record { letter: b'S', time: 34_200_000, event: b'Q', ..Record::default() })),
-        ('T', bytes(t)),
-        ('X', bytes(Record { letter: b'X', ..t })),
-        ('C', bytes(Record { letter: b'C', new: sale(77), ..t })),
-        ('J', bytes(summary)),
-    ]
+    let c = Record { letter: b'C', new: sale(77), ..t };
+    let plus = [event, t, Record { letter: b'X', ..t }, c, summary].map(|r| (Edition::NlsPlus, r));
+    // PLS has one centre and no consolidated volume; the time is one of the day, of eight digits.
+    let told = |r: Record| Record { time: 34_200_000, centre: b'X', consolidated: 0, ..r };
+    let pls =
+        [event, told(t), told(Record { letter: b'X', ..t }), told(c)].map(|r| (Edition::Pls, r));
+    plus.into_iter()
+        .chain(pls)
+        .map(|(edition, record)| Sample {
+            edition,
+            letter: char::from(record.letter),
+            bytes: bytes_by(edition, record),
+        })
+        .collect()
 }
 
 /// An event, then so many trades over so many symbols, behind each fiftieth a cancel of one that is still live.

@@ -7,6 +7,7 @@ mod sides;
 mod timed;
 mod work;
 
+use day::Sample;
 use messages::{Messages, Wrapped};
 use report::{compare, head, line};
 use sides::{Plain, Proved, Side};
@@ -37,11 +38,12 @@ fn best(
 }
 
 // A line for each type: the proved side's work, the plain side's.
-fn each_type(what: &str, one: fn(&[u8], usize) -> u64, other: fn(&[u8], usize) -> u64) {
+fn each_type(what: &str, one: fn(&Sample, usize) -> u64, other: fn(&Sample, usize) -> u64) {
     const TIMES: usize = 200_000;
-    for (letter, bytes) in day::samples() {
-        let (proved, plain) = best(40, TIMES, || one(&bytes, TIMES), || other(&bytes, TIMES));
-        compare(&format!("{what} {letter}"), proved, plain);
+    for sample in day::samples() {
+        let (proved, plain) = best(40, TIMES, || one(&sample, TIMES), || other(&sample, TIMES));
+        let words = [what, day::name(sample.edition), &sample.letter.to_string()].join(" ");
+        compare(&words.replace("  ", " "), proved, plain);
     }
 }
 

@@ -3,6 +3,9 @@ use crate::day;
 use crate::timed::timed;
 use std::hint::black_box;
 
+/// The day that is measured is one of NLS Plus.
+const NLS_PLUS: u64 = 0;
+
 fn symbols() -> Vec<[u8; 8]> {
     (0..256).map(day::symbol).collect()
 }
@@ -46,7 +49,7 @@ pub trait Side {
 
 /// The rooms and the counters of the proved book.
 pub struct Proved {
-    counters: [u64; 5],
+    counters: [u64; 6],
     rows: Vec<u8>,
     lines: Vec<u8>,
 }
@@ -60,13 +63,13 @@ pub struct Plain {
 
 impl Side for Proved {
     fn new(rows: usize, lines: usize) -> Proved {
-        Proved { counters: [0; 5], rows: vec![0; rows * 30], lines: vec![0; lines * 40] }
+        Proved { counters: [0; 6], rows: vec![0; rows * 30], lines: vec![0; lines * 40] }
     }
 
     fn clear(&mut self) {
         self.rows.fill(0);
         self.lines.fill(0);
-        sorundappa::raw::start(&mut self.counters);
+        sorundappa::raw::start(&mut self.counters, NLS_PLUS);
     }
 
     fn list(&mut self, symbols: &[[u8; 8]]) {
@@ -125,13 +128,17 @@ impl Side for Proved {
 
 impl Side for Plain {
     fn new(rows: usize, lines: usize) -> Plain {
-        Plain { counters: plain::fresh(), rows: vec![0; rows * 30], lines: vec![0; lines * 40] }
+        Plain {
+            counters: plain::fresh(plain::Edition::NlsPlus),
+            rows: vec![0; rows * 30],
+            lines: vec![0; lines * 40],
+        }
     }
 
     fn clear(&mut self) {
         self.rows.fill(0);
         self.lines.fill(0);
-        self.counters = plain::fresh();
+        self.counters = plain::fresh(plain::Edition::NlsPlus);
     }
 
     fn list(&mut self, symbols: &[[u8; 8]]) {
@@ -192,7 +199,7 @@ impl Proved {
         const MORE: usize = 64;
         let mut book = Proved::new(256, 65_536);
         let all = day::messages(lines, rows);
-        sorundappa::raw::start(&mut book.counters);
+        sorundappa::raw::start(&mut book.counters, NLS_PLUS);
         for i in 0..rows {
             sorundappa::raw::list(
                 &mut book.counters,

@@ -16,9 +16,9 @@ pub fn calls() -> Vec<&'static str> {
     include_str!("../calls.txt").split_whitespace().collect()
 }
 
-/// Whether a call's work can be done by `limit` too.
+/// Whether a call's work can be done by `limit` too, which has NLS Plus alone.
 pub fn has_limit(call: &str) -> bool {
-    call.starts_with("read-") || call.starts_with("write-")
+    (call.starts_with("read-") || call.starts_with("write-")) && !call.contains("-PLS-")
 }
 
 /// Where not a call is counted but a row or a line that it passes over: how many the shorter and the longer of two works pass over.
@@ -34,22 +34,30 @@ pub fn passed(call: &str) -> Option<[usize; 2]> {
 pub fn work(call: &str, side: &str, passed: usize) -> Option<usize> {
     let parts: Vec<&str> = call.split('-').collect();
     match (&parts[..], side) {
-        (["wrapped", way, letter], "library") => messages::<Wrapped>(way, letter),
-        (["wrapped", way, letter], "plain") => messages::<Plain>(way, letter),
-        ([way @ ("read" | "write"), letter], "library") => messages::<Proved>(way, letter),
-        ([way @ ("read" | "write"), letter], "plain") => messages::<Plain>(way, letter),
-        ([way @ ("read" | "write"), letter], "limit") => messages::<Limit>(way, letter),
+        (["wrapped", way, of @ ..], "library") => messages::<Wrapped>(way, of),
+        (["wrapped", way, of @ ..], "plain") => messages::<Plain>(way, of),
+        ([way @ ("read" | "write"), of @ ..], "library") => messages::<Proved>(way, of),
+        ([way @ ("read" | "write"), of @ ..], "plain") => messages::<Plain>(way, of),
+        ([way @ ("read" | "write"), letter], "limit") => messages::<Limit>(way, &[letter]),
         (_, "library") => book::<Proved>(call, passed),
         (_, "plain") => book::<Plain>(call, passed),
         _ => None,
     }
 }
 
-fn messages<M: Messages>(way: &str, letter: &str) -> Option<usize> {
-    let (_, message) = day::samples().into_iter().find(|(of, _)| of.to_string() == letter)?;
+// Of an edition and a letter; of a letter alone the edition is NLS Plus.
+fn messages<M: Messages>(way: &str, of: &[&str]) -> Option<usize> {
+    let (edition, letter) = match of {
+        [letter] => ("", letter),
+        [edition, letter] if !edition.is_empty() => (*edition, letter),
+        _ => return None,
+    };
+    let sample = day::samples()
+        .into_iter()
+        .find(|s| day::name(s.edition) == edition && s.letter.to_string() == **letter)?;
     match way {
-        "read" => M::reads(&message, TIMES),
-        "write" => M::writes(&message, TIMES),
+        "read" => M::reads(&sample, TIMES),
+        "write" => M::writes(&sample, TIMES),
         _ => return None,
     };
     Some(TIMES)
@@ -121,12 +129,23 @@ mod tests {
 
     #[test]
     fn nothing_else_has() {
-        for call in
-            ["", "read", "read-", "read-Q", "row-", "wrapped-row", "wrapped-read", "strange"]
-        {
+        for call in [
+            "",
+            "read",
+            "read-",
+            "read-Q",
+            "read--T",
+            "read-PLS-J",
+            "read-NLS-T",
+            "row-",
+            "wrapped-row",
+            "wrapped-read",
+            "strange",
+        ] {
             assert_eq!(work(call, "library", 0), None, "{call}");
         }
         assert_eq!(work("read-S", "strange", 0), None);
+        assert_eq!(work("read-PLS-T", "limit", 0), None);
         assert_eq!(work("row-passed-early", "library", 256), None);
         assert_eq!(work("line-walked", "plain", 60_001), None);
     }

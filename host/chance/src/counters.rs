@@ -2,7 +2,7 @@
 
 use crate::dice::Dice;
 
-/// The five counters, in the order in which a book is described.
+/// The five counters, in the order in which a book is described, and behind them the number of its edition.
 #[derive(Clone, Copy, Debug, PartialEq, Eq)]
 pub struct Counts {
     pub wanted: u64,
@@ -10,10 +10,13 @@ pub struct Counts {
     pub rows: u64,
     pub lines: u64,
     pub taken: u64,
+    pub edition: u64,
 }
 
 const WANTED: [u64; 7] = [0, 1, 2, 4_294_967_295, 4_294_967_296, 4_294_967_297, u64::MAX];
 const PHASES: [u64; 4] = [0, 6, 7, u64::MAX];
+/// Numbers that are no edition's, though parts of some are.
+const STRANGE: [u64; 5] = [2, 256, 1 << 32, (1 << 32) + 1, u64::MAX];
 
 /// Sound counters for these limits, often in a phase in which messages are due.
 pub fn sound_counters(dice: &mut Dice, rows_limit: u64, lines_limit: u64) -> Counts {
@@ -29,6 +32,7 @@ pub fn sound_counters(dice: &mut Dice, rows_limit: u64, lines_limit: u64) -> Cou
         rows: up_to(dice, rows_limit),
         lines: up_to(dice, lines_limit),
         taken: up_to(dice, wanted - 1),
+        edition: dice.below(2),
     }
 }
 
@@ -53,7 +57,7 @@ pub fn odd_counters(dice: &mut Dice, rows_limit: u64, lines_limit: u64) -> Count
         return counts;
     }
     let several = dice.chance(3);
-    let one = dice.below(5);
+    let one = dice.below(6);
     let touch = |counter: u64, dice: &mut Dice| one == counter || (several && dice.chance(2));
     if touch(0, dice) {
         counts.wanted = dice.pick(&WANTED);
@@ -71,6 +75,9 @@ pub fn odd_counters(dice: &mut Dice, rows_limit: u64, lines_limit: u64) -> Count
     if touch(4, dice) {
         counts.taken = around(dice, counts.wanted.wrapping_sub(1));
     }
+    if touch(5, dice) {
+        counts.edition = dice.pick(&STRANGE);
+    }
     counts
 }
 
@@ -80,8 +87,11 @@ mod tests {
 
     fn is_sound(c: &Counts) -> bool {
         let (rows, lines) = (vec![0; 3 * 30], vec![0; 5 * 40]);
-        let Counts { wanted, phase, rows: used, lines: trades, taken } = *c;
-        let counters = plain::Counters { wanted, phase, rows: used, lines: trades, taken };
+        let Counts { wanted, phase, rows: used, lines: trades, taken, edition } = *c;
+        let Some(edition) = plain::Edition::of(edition) else {
+            return false;
+        };
+        let counters = plain::Counters { edition, wanted, phase, rows: used, lines: trades, taken };
         plain::row(&counters, &rows, &lines, [1; 8]).0 != plain::Answer::Unsound
     }
 
@@ -93,6 +103,7 @@ mod tests {
         assert!((0..=6).all(|phase| all.iter().any(|c| c.phase == phase)));
         assert!((0..=3).all(|rows| all.iter().any(|c| c.rows == rows)));
         assert!((0..=5).all(|lines| all.iter().any(|c| c.lines == lines)));
+        assert!((0..=1).all(|edition| all.iter().any(|c| c.edition == edition)));
         assert!(all.iter().any(|c| c.wanted == 4_294_967_296 && c.taken == 4_294_967_295));
         assert!(all.iter().any(|c| c.wanted == 1));
     }
@@ -104,6 +115,7 @@ mod tests {
         let has = |test: &dyn Fn(&Counts) -> bool| all.iter().any(test);
         assert!(WANTED.iter().all(|wanted| has(&|c| c.wanted == *wanted)));
         assert!(PHASES.iter().all(|phase| has(&|c| c.phase == *phase)));
+        assert!(STRANGE.iter().all(|edition| has(&|c| c.edition == *edition)));
         assert!([2, 3, 4, u64::MAX].iter().all(|rows| has(&|c| c.rows == *rows)));
         assert!([4, 5, 6, u64::MAX].iter().all(|lines| has(&|c| c.lines == *lines)));
         for back in 0..3 {
@@ -117,7 +129,7 @@ mod tests {
     #[test]
     fn every_counter_is_sometimes_the_only_fault() {
         let mut dice = Dice::new(43);
-        let mut alone = [0; 5];
+        let mut alone = [0; 6];
         for _ in 0..20_000 {
             let c = odd_counters(&mut dice, 3, 5);
             let faults = [
@@ -126,6 +138,7 @@ mod tests {
                 c.rows > 3,
                 c.lines > 5,
                 c.taken >= c.wanted && c.wanted != 0,
+                c.edition > 1,
             ];
             if faults.iter().filter(|fault| **fault).count() == 1 {
                 alone[faults.iter().position(|fault| *fault).unwrap()] += 1;

@@ -1,7 +1,7 @@
 //! A day's messages, and how a bad line delivers them.
 
 use crate::dice::Dice;
-use crate::maker::{control, Maker, New, Trade, EVENTS, PRICES, SYMBOLS};
+use crate::maker::{control, Edition, Maker, New, Trade, EVENTS, PRICES, SYMBOLS};
 
 /// A day sheet and one message for each number from 1 on.
 #[derive(Clone, Debug, PartialEq, Eq)]
@@ -18,15 +18,15 @@ struct Memory {
     maker: Maker,
 }
 
-/// A plausible day of `n` messages, with its share of faults of every kind.
-pub fn day(dice: &mut Dice, n: usize) -> Day {
+/// A plausible day of `n` messages of an edition, with its share of faults of every kind.
+pub fn day(dice: &mut Dice, edition: Edition, n: usize) -> Day {
     let listings = listings(dice);
     let symbols = listings.iter().map(|(symbol, _)| *symbol).collect();
-    let maker = Maker::new(n as u64 / 2 + 2);
+    let maker = Maker::of(edition, n as u64 / 2 + 2);
     let mut memory = Memory { known: Vec::new(), symbols, next_control: 0, maker };
     let messages = (0..n)
         .map(|at| match event_at(at, n) {
-            Some(event) => Maker::event(Maker::some_time(dice), event),
+            Some(event) => maker.event(Maker::some_time(dice), event),
             None => memory.message(dice),
         })
         .collect();
@@ -64,20 +64,27 @@ impl Memory {
             0..=49 => self.trade(dice),
             50..=66 => self.cancel(dice),
             67..=83 => self.correction(dice),
-            84..=93 => self.summary(dice),
-            // An event out of its turn; never C, which would end the day.
-            94 | 95 => Maker::event(Maker::some_time(dice), dice.pick(&EVENTS[..5])),
+            84..=93 => self.other(dice),
+            94 | 95 => self.event(dice),
             _ => {
-                let good = self.maker.some_message(dice);
-                Maker::broken(dice, &good)
+                let good = match dice.pick(self.maker.letters()) {
+                    b'S' => self.event(dice),
+                    letter => self.maker.some_of(dice, letter),
+                };
+                self.maker.broken(dice, &good)
             }
         };
         // A good one spoiled: what was remembered of it is then not in the book.
         if dice.chance(40) {
-            Maker::broken(dice, &message)
+            self.maker.broken(dice, &message)
         } else {
             message
         }
+    }
+
+    /// An event out of its turn; never C, which would end the day.
+    fn event(&self, dice: &mut Dice) -> Vec<u8> {
+        self.maker.event(Maker::some_time(dice), dice.pick(&EVENTS[..5]))
     }
 
     /// Mostly a symbol of the sheet.
@@ -102,7 +109,7 @@ impl Memory {
         let drawn = self.maker.some_trade(dice);
         let trade = Trade { symbol: self.symbol(dice), control: self.control(dice), ..drawn };
         self.known.push((trade, true));
-        Maker::trade(&trade)
+        self.maker.spelled(dice, self.maker.trade(&trade))
     }
 
     /// Where a known trade is to be found; a live one where three draws meet one.
@@ -142,7 +149,7 @@ impl Memory {
         if let Some(at) = at {
             self.known[at].1 = false;
         }
-        Maker::cancel(&original)
+        self.maker.spelled(dice, self.maker.cancel(&original))
     }
 
     fn correction(&mut self, dice: &mut Dice) -> Vec<u8> {
@@ -160,10 +167,17 @@ impl Memory {
                 self.known.push((added, true));
             }
         }
-        Maker::correction(&original, &new)
+        self.maker.spelled(dice, self.maker.correction(&original, &new))
     }
 
-    fn summary(&mut self, dice: &mut Dice) -> Vec<u8> {
+    // A summary; in a day of PLS, which has none, a message of NLS Plus or one more trade.
+    fn other(&mut self, dice: &mut Dice) -> Vec<u8> {
+        if self.maker.edition == Edition::Pls {
+            return match dice.below(2) {
+                0 => Maker::new(self.maker.controls).some_message(dice),
+                _ => self.trade(dice),
+            };
+        }
         let mut summary = Maker::some_summary(dice);
         summary.symbol = self.symbol(dice);
         Maker::summary(&summary)
@@ -216,9 +230,13 @@ mod tests {
 
     const QUIET: Trouble = Trouble { lost: 0, repeated: 0, late: 0, rounds: 1 };
 
+    fn started(edition: Edition) -> Counters {
+        fresh(plain::Edition::of(edition.number()).unwrap())
+    }
+
     /// Plays a day into a book with so much room and counts each answer.
-    fn play(day: &Day, rows: usize, lines: usize) -> ([usize; 19], Counters) {
-        let mut counters = fresh();
+    fn play(edition: Edition, day: &Day, rows: usize, lines: usize) -> ([usize; 19], Counters) {
+        let mut counters = started(edition);
         let (mut rows, mut lines) = (vec![0; rows * 30], vec![0; lines * 40]);
         let mut seen = [0; 19];
         for (symbol, close) in &day.listings {
@@ -235,44 +253,58 @@ mod tests {
     #[test]
     fn days_meet_every_answer_that_a_true_line_can_give() {
         let mut dice = Dice::new(21);
-        let mut all = [0; 19];
-        for _ in 0..20 {
-            let day = day(&mut dice, 400);
-            assert_eq!(day.messages.len(), 400);
-            let (seen, counters) = play(&day, 6, 150);
-            assert_eq!((counters.wanted, counters.phase), (401, 6));
-            assert!(counters.taken > 150 && counters.taken < 390, "{counters:?}");
-            for (all, seen) in all.iter_mut().zip(seen) {
-                *all += seen;
+        for edition in Edition::ALL {
+            let mut all = [0; 19];
+            for _ in 0..20 {
+                let day = day(&mut dice, edition, 400);
+                assert_eq!(day.messages.len(), 400);
+                let (seen, counters) = play(edition, &day, 6, 150);
+                assert_eq!((counters.wanted, counters.phase), (401, 6));
+                assert!(counters.taken > 100 && counters.taken < 390, "{counters:?}");
+                for (all, seen) in all.iter_mut().zip(seen) {
+                    *all += seen;
+                }
             }
-        }
-        for answer in [0, 4, 5, 6, 7, 8, 9, 10, 11, 12, 13, 15, 16] {
-            assert!(all[answer] > 3, "{answer} in {all:?}");
-        }
-        for answer in [1, 2, 3, 14, 17, 18] {
-            assert_eq!(all[answer], 0);
+            for answer in [0, 4, 5, 6, 7, 8, 9, 10, 11, 12, 13, 15, 16] {
+                assert!(all[answer] > 3, "{answer} in {all:?}");
+            }
+            for answer in [1, 2, 3, 14, 17, 18] {
+                assert_eq!(all[answer], 0);
+            }
         }
     }
 
     #[test]
     fn most_cancels_and_corrections_find_a_live_line() {
         let mut dice = Dice::new(22);
-        let day = day(&mut dice, 2_000);
-        let (seen, counters) = play(&day, 8, 2_000);
-        let sent = |letter: u8| {
-            day.messages.iter().filter(|m| m.len() > 40 && m[4] == letter).count() as u64
-        };
-        assert!(seen[8] + seen[9] + seen[10] < 400, "{seen:?}");
-        assert!(counters.lines > sent(b'T') * 3 / 4);
+        for edition in Edition::ALL {
+            let day = day(&mut dice, edition, 2_000);
+            let (seen, counters) = play(edition, &day, 8, 2_000);
+            let at = Maker::of(edition, 0).letter_at();
+            let trades = day.messages.iter().filter(|m| m.len() > 40 && m[at] == b'T').count();
+            assert!(seen[8] + seen[9] + seen[10] < 400, "{seen:?}");
+            assert!(counters.lines > trades as u64 * 3 / 4);
+        }
+    }
+
+    #[test]
+    fn days_of_pls_have_leading_zeros_and_messages_of_nls_plus() {
+        let day = day(&mut Dice::new(29), Edition::Pls, 1_000);
+        let with = |test: &dyn Fn(&[u8]) -> bool| day.messages.iter().filter(|m| test(m)).count();
+        assert!(with(&|m| m.len() == 52 && m[29..39].starts_with(b"0")) > 20);
+        assert!(with(&|m| m.len() == 52 && m[29..39].starts_with(b" 0")) > 5);
+        let plus = plain::Edition::NlsPlus;
+        assert!(with(&|m| plain::read(plus, m).0 == plain::Answer::Done) > 20);
     }
 
     #[test]
     fn short_days_and_equal_seeds() {
-        for n in 0..20 {
-            assert_eq!(day(&mut Dice::new(23), n).messages.len(), n);
+        for edition in Edition::ALL {
+            let drawn = |seed: u64, n: usize| day(&mut Dice::new(seed), edition, n);
+            assert!((0..20).all(|n| drawn(23, n).messages.len() == n));
+            assert_eq!(drawn(24, 99), drawn(24, 99));
+            assert_ne!(drawn(24, 99), drawn(25, 99));
         }
-        assert_eq!(day(&mut Dice::new(24), 99), day(&mut Dice::new(24), 99));
-        assert_ne!(day(&mut Dice::new(24), 99), day(&mut Dice::new(25), 99));
     }
 
     #[test]
@@ -323,10 +355,11 @@ mod tests {
     fn the_book_s_wanted_number_is_reach_and_one() {
         let mut dice = Dice::new(28);
         for _ in 0..30 {
-            let day = day(&mut dice, 60);
+            let edition = dice.pick(&Edition::ALL);
+            let day = day(&mut dice, edition, 60);
             let trouble = Trouble { lost: 30, repeated: 5, late: 6, rounds: 2 };
             let line = arrivals(&mut dice, 60, trouble);
-            let mut counters = fresh();
+            let mut counters = started(edition);
             for number in &line {
                 deliver(&mut counters, &mut [], &mut [], *number as u64, &day.messages[number - 1]);
             }

@@ -6,13 +6,15 @@ mod counters;
 mod day;
 mod dice;
 mod maker;
+mod nls_plus;
+mod pls;
 mod rooms;
 
 pub use counters::{odd_counters, sound_counters, Counts};
 pub use day::{arrivals, day, reach, Day, Trouble};
 pub use dice::Dice;
 pub use maker::{
-    control, cut, flip, retype, Maker, New, Summary, Trade, CENTRES, CLASSES, EVENTS, LEVELS,
-    PRICES, SIZES, SYMBOLS, TIMES,
+    control, cut, flip, retype, Edition, Maker, New, Summary, Trade, EVENTS, LEVELS, PRICES,
+    SYMBOLS, TIMES,
 };
 pub use rooms::{contents, Kind, LINE, ROW};

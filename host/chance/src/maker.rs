@@ -1,6 +1,24 @@
 //! Messages from fields, random fields that obey the rules, and ways to break a message.
 
 use crate::dice::Dice;
+use crate::{nls_plus, pls};
+
+/// Whose layouts and rules a message has.
+#[derive(Clone, Copy, Debug, PartialEq, Eq)]
+pub enum Edition {
+    NlsPlus,
+    Pls,
+}
+
+impl Edition {
+    /// Both, by their numbers.
+    pub const ALL: [Edition; 2] = [Edition::NlsPlus, Edition::Pls];
+
+    /// The edition's number.
+    pub fn number(self) -> u64 {
+        self as u64
+    }
+}
 
 /// Symbols that days and near-real rooms share: short ones, full ones, and near namesakes.
 pub const SYMBOLS: [[u8; 8]; 8] = [
@@ -15,16 +33,12 @@ pub const SYMBOLS: [[u8; 8]; 8] = [
 ];
 /// Prices that meet often, with both ends of what a trade may cost.
 pub const PRICES: [u32; 8] = [1, 2, 9_999, 250_000, 251_000, 260_000, 1_999_999_999, 2_000_000_000];
-/// Sizes that meet often, with both ends.
-pub const SIZES: [u32; 6] = [1, 50, 100, 300, 4_294_967_294, 4_294_967_295];
+/// Sizes that meet often; the ends are each edition's own.
+const SIZES: [u32; 4] = [1, 50, 100, 300];
 /// Times at both ends and between.
 pub const TIMES: [u32; 5] = [0, 1, 34_200_000, 57_600_000, 86_399_999];
 /// The events in the order of the day.
 pub const EVENTS: [u8; 6] = *b"OSQMEC";
-/// The market centres.
-pub const CENTRES: [u8; 4] = *b"QLBX";
-/// The issue classes.
-pub const CLASSES: [u8; 6] = *b"QNAPZB";
 /// The codes of the sale condition sheet, level by level, those with both marks first.
 pub const LEVELS: [&[u8]; 4] = [b"@CNR", b" FO5647", b" LZTU", b" ABDKSXYHIVW"];
 
@@ -63,9 +77,10 @@ pub struct Summary {
     pub consolidated: u64,
 }
 
-/// Builds messages and draws fields; the fewer its controls, the more often two keys meet.
+/// Builds an edition's messages and draws fields; the fewer its controls, the more often two keys meet.
 #[derive(Clone, Copy, Debug)]
 pub struct Maker {
+    pub edition: Edition,
     /// How many different controls it draws from.
     pub controls: u64,
 }
@@ -78,73 +93,93 @@ pub fn control(number: u64) -> [u8; 10] {
     out
 }
 
-fn head(time: u32, letter: u8) -> Vec<u8> {
-    let mut out = time.to_be_bytes().to_vec();
-    out.push(letter);
-    out
-}
-
-/// Time to condition, as the three messages about a trade share them.
-fn about(letter: u8, trade: &Trade) -> Vec<u8> {
-    let mut out = head(trade.time, letter);
-    out.push(trade.centre);
-    out.extend(trade.symbol);
-    out.push(trade.class);
-    out.extend(trade.control);
-    out.extend(trade.price.to_be_bytes());
-    out.extend(trade.size.to_be_bytes());
-    out.extend(trade.condition);
-    out
-}
-
 impl Maker {
-    /// A maker that draws from so many controls.
+    /// A maker of NLS Plus that draws from so many controls.
     pub fn new(controls: u64) -> Maker {
-        Maker { controls }
+        Maker::of(Edition::NlsPlus, controls)
     }
 
-    /// S, of 6 bytes.
-    pub fn event(time: u32, event: u8) -> Vec<u8> {
-        let mut out = head(time, b'S');
-        out.push(event);
-        out
+    /// A maker of an edition.
+    pub fn of(edition: Edition, controls: u64) -> Maker {
+        Maker { edition, controls }
     }
 
-    /// T, of 45 bytes.
-    pub fn trade(trade: &Trade) -> Vec<u8> {
-        let mut out = about(b'T', trade);
-        out.extend(trade.consolidated.to_be_bytes());
-        out
+    /// S.
+    pub fn event(&self, time: u32, event: u8) -> Vec<u8> {
+        match self.edition {
+            Edition::NlsPlus => nls_plus::event(time, event),
+            Edition::Pls => pls::event(time, event),
+        }
     }
 
-    /// X, of 45 bytes.
-    pub fn cancel(original: &Trade) -> Vec<u8> {
-        let mut out = about(b'X', original);
-        out.extend(original.consolidated.to_be_bytes());
-        out
+    /// T.
+    pub fn trade(&self, trade: &Trade) -> Vec<u8> {
+        self.about(b'T', trade)
     }
 
-    /// C, of 67 bytes.
-    pub fn correction(original: &Trade, new: &New) -> Vec<u8> {
-        let mut out = about(b'C', original);
-        out.extend(new.control);
-        out.extend(new.price.to_be_bytes());
-        out.extend(new.size.to_be_bytes());
-        out.extend(new.condition);
-        out.extend(original.consolidated.to_be_bytes());
-        out
+    /// X.
+    pub fn cancel(&self, original: &Trade) -> Vec<u8> {
+        self.about(b'X', original)
     }
 
-    /// J, of 34 bytes.
+    fn about(&self, letter: u8, trade: &Trade) -> Vec<u8> {
+        match self.edition {
+            Edition::NlsPlus => nls_plus::trade(letter, trade),
+            Edition::Pls => pls::trade(letter, trade),
+        }
+    }
+
+    /// C.
+    pub fn correction(&self, original: &Trade, new: &New) -> Vec<u8> {
+        match self.edition {
+            Edition::NlsPlus => nls_plus::correction(original, new),
+            Edition::Pls => pls::correction(original, new),
+        }
+    }
+
+    /// J, which NLS Plus alone has.
     pub fn summary(summary: &Summary) -> Vec<u8> {
-        let mut out = head(summary.time, b'J');
-        out.extend(summary.symbol);
-        out.push(summary.class);
-        out.extend(summary.high.to_be_bytes());
-        out.extend(summary.low.to_be_bytes());
-        out.extend(summary.close.to_be_bytes());
-        out.extend(summary.consolidated.to_be_bytes());
-        out
+        nls_plus::summary(summary)
+    }
+
+    /// The market centres.
+    pub fn centres(&self) -> &'static [u8] {
+        match self.edition {
+            Edition::NlsPlus => b"QLBX",
+            Edition::Pls => b"X",
+        }
+    }
+
+    /// The issue classes.
+    pub fn classes(&self) -> &'static [u8] {
+        match self.edition {
+            Edition::NlsPlus => b"QNAPZB",
+            Edition::Pls => b"QNAPZ",
+        }
+    }
+
+    /// The greatest size.
+    pub fn top_size(&self) -> u32 {
+        match self.edition {
+            Edition::NlsPlus => u32::MAX,
+            Edition::Pls => 999_999_999,
+        }
+    }
+
+    /// The types' letters.
+    pub fn letters(&self) -> &'static [u8] {
+        match self.edition {
+            Edition::NlsPlus => b"STXCJ",
+            Edition::Pls => b"STXC",
+        }
+    }
+
+    /// Where a message bears its type's letter.
+    pub fn letter_at(&self) -> usize {
+        match self.edition {
+            Edition::NlsPlus => 4,
+            Edition::Pls => 8,
+        }
     }
 
     /// A lawful time.
@@ -165,12 +200,13 @@ impl Maker {
         }
     }
 
-    /// A lawful size, mostly of the pool.
-    pub fn some_size(dice: &mut Dice) -> u32 {
-        if dice.chance(4) {
-            1 + dice.below(4_294_967_295) as u32
-        } else {
-            dice.pick(&SIZES)
+    /// A lawful size, mostly of the pool, often next to the greatest.
+    pub fn some_size(&self, dice: &mut Dice) -> u32 {
+        let top = self.top_size();
+        match dice.below(4) {
+            0 => 1 + dice.below(top.into()) as u32,
+            1 => top - dice.below(2) as u32,
+            _ => dice.pick(&SIZES),
         }
     }
 
@@ -198,12 +234,12 @@ impl Maker {
     pub fn some_trade(&self, dice: &mut Dice) -> Trade {
         Trade {
             time: Maker::some_time(dice),
-            centre: dice.pick(&CENTRES),
+            centre: dice.pick(self.centres()),
             symbol: dice.pick(&SYMBOLS),
-            class: dice.pick(&CLASSES),
+            class: dice.pick(self.classes()),
             control: self.some_control(dice),
             price: Maker::some_price(dice),
-            size: Maker::some_size(dice),
+            size: self.some_size(dice),
             condition: Maker::some_condition(dice),
             consolidated: Maker::some_volume(dice),
         }
@@ -214,7 +250,7 @@ impl Maker {
         New {
             control: self.some_control(dice),
             price: Maker::some_price(dice),
-            size: Maker::some_size(dice),
+            size: self.some_size(dice),
             condition: Maker::some_condition(dice),
         }
     }
@@ -232,7 +268,7 @@ impl Maker {
         Summary {
             time: Maker::some_time(dice),
             symbol: dice.pick(&SYMBOLS),
-            class: dice.pick(&CLASSES),
+            class: dice.pick(b"QNAPZB"),
             high,
             low,
             close,
@@ -240,33 +276,73 @@ impl Maker {
         }
     }
 
-    /// Any lawful message of the five types.
+    /// Any lawful message of the edition's types, its numbers in any spelling.
     pub fn some_message(&self, dice: &mut Dice) -> Vec<u8> {
-        match dice.below(8) {
-            0 => Maker::event(Maker::some_time(dice), dice.pick(&EVENTS)),
-            1..=3 => Maker::trade(&self.some_trade(dice)),
-            4 | 5 => Maker::cancel(&self.some_trade(dice)),
-            6 => Maker::correction(&self.some_trade(dice), &self.some_new(dice)),
-            _ => Maker::summary(&Maker::some_summary(dice)),
+        let letter = dice.pick(match self.edition {
+            Edition::NlsPlus => b"STTTXXCJ",
+            Edition::Pls => b"STTTXXCC",
+        });
+        self.some_of(dice, letter)
+    }
+
+    /// A lawful message of a type.
+    pub fn some_of(&self, dice: &mut Dice, letter: u8) -> Vec<u8> {
+        let message = match letter {
+            b'S' => self.event(Maker::some_time(dice), dice.pick(&EVENTS)),
+            b'J' => Maker::summary(&Maker::some_summary(dice)),
+            b'C' => self.correction(&self.some_trade(dice), &self.some_new(dice)),
+            _ => self.about(letter, &self.some_trade(dice)),
+        };
+        self.spelled(dice, message)
+    }
+
+    /// A message about the trade of a line's cell, whatever that says; a correction to new fields that are lawful.
+    pub fn of_line(&self, dice: &mut Dice, letter: u8, cell: &[u8]) -> Vec<u8> {
+        let number = |at: usize| u32::from_be_bytes(cell[at..at + 4].try_into().expect("4 bytes"));
+        let named = Trade {
+            centre: cell[0],
+            symbol: cell[11..19].try_into().expect("8 bytes"),
+            control: cell[1..11].try_into().expect("10 bytes"),
+            price: number(19),
+            size: number(23),
+            condition: cell[27..31].try_into().expect("4 bytes"),
+            ..self.some_trade(dice)
+        };
+        let message = match letter {
+            b'C' => self.correction(&named, &self.some_new(dice)),
+            _ => self.about(letter, &named),
+        };
+        self.spelled(dice, message)
+    }
+
+    /// The message, its numbers in any spelling that they may have.
+    pub fn spelled(&self, dice: &mut Dice, message: Vec<u8>) -> Vec<u8> {
+        match self.edition {
+            Edition::NlsPlus => message,
+            Edition::Pls => pls::respelled(dice, &message),
         }
     }
 
     /// The original with one of the fields changed that name it, to another lawful value.
     pub fn one_off(&self, dice: &mut Dice, original: &Trade) -> Trade {
         let mut off = *original;
-        match dice.below(6) {
+        let fields = if self.centres().len() > 1 { 6 } else { 5 };
+        match dice.below(fields) {
             0 => off.symbol = other(original.symbol, || dice.pick(&SYMBOLS)),
             1 => off.price = other(original.price, || dice.pick(&PRICES)),
             2 => off.size = other(original.size, || dice.pick(&SIZES)),
             3 => off.condition = other(original.condition, || LEVELS.map(|codes| dice.pick(codes))),
-            4 => off.centre = other(original.centre, || dice.pick(&CENTRES)),
+            5 => off.centre = other(original.centre, || dice.pick(self.centres())),
             _ => off.control = other(original.control, || control(dice.below(self.controls + 2))),
         }
         off
     }
 
-    /// Breaks a message in one of the three ways, or fills it with random bytes.
-    pub fn broken(dice: &mut Dice, message: &[u8]) -> Vec<u8> {
+    /// Breaks a message in one of the three ways, or fills it with random bytes; one of PLS is also misspelled.
+    pub fn broken(&self, dice: &mut Dice, message: &[u8]) -> Vec<u8> {
+        if self.edition == Edition::Pls && dice.chance(2) {
+            return pls::misspelled(dice, message);
+        }
         match dice.below(8) {
             0 => {
                 let length = dice.index(101);
@@ -276,7 +352,7 @@ impl Maker {
                 let length = dice.index(101);
                 cut(message, length, dice)
             }
-            3 => retype(message, dice.pick(b"STXCJHIAstxcj\0\xff")),
+            3 => retype(message, self.letter_at(), dice.pick(b"STXCJHIAstxcj\0\xff")),
             _ => {
                 let at = dice.index(message.len());
                 flip(message, at, dice)
@@ -311,10 +387,10 @@ pub fn cut(message: &[u8], length: usize, dice: &mut Dice) -> Vec<u8> {
     out
 }
 
-/// The message with another type byte; unchanged where it has none.
-pub fn retype(message: &[u8], letter: u8) -> Vec<u8> {
+/// The message with another byte where its letter stands; unchanged where it has no such byte.
+pub fn retype(message: &[u8], at: usize, letter: u8) -> Vec<u8> {
     let mut out = message.to_vec();
-    if let Some(byte) = out.get_mut(4) {
+    if let Some(byte) = out.get_mut(at) {
         *byte = letter;
     }
     out
@@ -336,17 +412,24 @@ mod tests {
         consolidated: 0x1112_1314_1516_1718,
     };
 
+    const PLUS: Maker = Maker { edition: Edition::NlsPlus, controls: 5 };
+    const PLS: Maker = Maker { edition: Edition::Pls, controls: 5 };
+
+    fn read(maker: Maker, message: &[u8]) -> plain::Answer {
+        plain::read(plain::Edition::of(maker.edition.number()).unwrap(), message).0
+    }
+
     #[test]
-    fn layouts_byte_by_byte() {
-        assert_eq!(Maker::event(9, b'M'), *b"\0\0\0\x09SM");
+    fn layouts_of_nls_plus_byte_by_byte() {
+        assert_eq!(PLUS.event(9, b'M'), *b"\0\0\0\x09SM");
         let tail = b"LABCD    N77        \x01\x02\x03\x04\x05\x06\x07\x08@FT ";
         let volume = b"\x11\x12\x13\x14\x15\x16\x17\x18";
-        assert_eq!(Maker::trade(&ABCD), [b"\0\0\x07\xd0T", &tail[..], volume].concat());
-        assert_eq!(Maker::cancel(&ABCD), [b"\0\0\x07\xd0X", &tail[..], volume].concat());
+        assert_eq!(PLUS.trade(&ABCD), [b"\0\0\x07\xd0T", &tail[..], volume].concat());
+        assert_eq!(PLUS.cancel(&ABCD), [b"\0\0\x07\xd0X", &tail[..], volume].concat());
         let new = New { control: *b"8         ", price: 1, size: 2, condition: *b"C   " };
         let middle = b"8         \0\0\0\x01\0\0\0\x02C   ";
         let expected = [b"\0\0\x07\xd0C", &tail[..], middle, volume].concat();
-        assert_eq!((expected.len(), Maker::correction(&ABCD, &new)), (67, expected));
+        assert_eq!((expected.len(), PLUS.correction(&ABCD, &new)), (67, expected));
         let day = Summary {
             time: 1,
             symbol: *b"Z       ",
@@ -361,6 +444,19 @@ mod tests {
     }
 
     #[test]
+    fn layouts_of_pls_byte_by_byte() {
+        assert_eq!(PLS.event(9, b'M'), *b"       9SM");
+        let abcd = Trade { centre: b'X', price: 12, size: 34_567, ..ABCD };
+        let tail = b"XABCD    N77              0012    34567@FT ";
+        assert_eq!(PLS.trade(&abcd), [b"    2000T", &tail[..]].concat());
+        assert_eq!(PLS.cancel(&abcd), [b"    2000X", &tail[..]].concat());
+        let new = New { control: *b"8         ", price: 10_000, size: 2, condition: *b"C   " };
+        let middle = b"8              10000        2C   ";
+        let expected = [b"    2000C", &tail[..], middle].concat();
+        assert_eq!((expected.len(), PLS.correction(&abcd, &new)), (85, expected));
+    }
+
+    #[test]
     fn controls_are_digits_and_spaces() {
         assert_eq!(control(0), *b"0         ");
         assert_eq!(control(9_999_999_999), *b"9999999999");
@@ -370,30 +466,36 @@ mod tests {
     #[test]
     fn drawn_messages_are_lawful_and_of_all_types() {
         let mut dice = Dice::new(11);
-        let maker = Maker::new(5);
-        let mut seen = Vec::new();
-        for _ in 0..5_000 {
-            let message = maker.some_message(&mut dice);
-            assert_eq!(plain::read(&message).0, plain::Answer::Done, "{message:?}");
-            seen.push(message[4]);
+        for maker in [PLUS, PLS] {
+            let mut seen = Vec::new();
+            for _ in 0..5_000 {
+                let message = maker.some_message(&mut dice);
+                assert_eq!(read(maker, &message), plain::Answer::Done, "{message:?}");
+                seen.push(message[maker.letter_at()]);
+            }
+            assert!(maker.letters().iter().all(|letter| seen.contains(letter)));
         }
-        assert!(b"STXCJ".iter().all(|letter| seen.contains(letter)));
     }
 
     #[test]
     fn drawn_fields_reach_every_code_and_both_ends() {
         let mut dice = Dice::new(12);
-        let trades: Vec<Trade> = (0..5_000).map(|_| Maker::new(5).some_trade(&mut dice)).collect();
-        for (level, codes) in LEVELS.iter().enumerate() {
-            assert!(codes.iter().all(|code| trades.iter().any(|t| t.condition[level] == *code)));
+        for maker in [PLUS, PLS] {
+            let trades: Vec<Trade> = (0..5_000).map(|_| maker.some_trade(&mut dice)).collect();
+            let has = |test: &dyn Fn(&Trade) -> bool| trades.iter().any(test);
+            for (level, codes) in LEVELS.iter().enumerate() {
+                assert!(codes.iter().all(|code| has(&|t| t.condition[level] == *code)));
+            }
+            assert!(SYMBOLS.iter().all(|symbol| has(&|t| t.symbol == *symbol)));
+            assert!(maker.centres().iter().all(|centre| has(&|t| t.centre == *centre)));
+            assert!(maker.classes().iter().all(|class| has(&|t| t.class == *class)));
+            assert!(has(&|t| t.price == 2_000_000_000));
+            assert!(has(&|t| t.size == maker.top_size()));
+            assert!(has(&|t| t.time == 86_399_999));
+            assert!(has(&|t| t.consolidated < 100));
+            assert!(has(&|t| t.consolidated > u64::MAX / 2));
+            assert_eq!(trades.iter().map(|t| t.control).max(), Some(*b"4         "));
         }
-        assert!(SYMBOLS.iter().all(|symbol| trades.iter().any(|t| t.symbol == *symbol)));
-        assert!(trades.iter().any(|t| t.price == 2_000_000_000));
-        assert!(trades.iter().any(|t| t.size == u32::MAX));
-        assert!(trades.iter().any(|t| t.time == 86_399_999));
-        assert!(trades.iter().any(|t| t.consolidated < 100));
-        assert!(trades.iter().any(|t| t.consolidated > u64::MAX / 2));
-        assert_eq!(trades.iter().map(|t| t.control).max(), Some(*b"4         "));
     }
 
     #[test]
@@ -401,8 +503,8 @@ mod tests {
         let mut dice = Dice::new(13);
         let mut changed = [0; 6];
         for _ in 0..600 {
-            let off = Maker::new(3).one_off(&mut dice, &ABCD);
-            assert_eq!(plain::read(&Maker::cancel(&off)).0.number(), 0);
+            let off = PLUS.one_off(&mut dice, &ABCD);
+            assert_eq!(read(PLUS, &PLUS.cancel(&off)).number(), 0);
             let differs = [
                 off.symbol != ABCD.symbol,
                 off.price != ABCD.price,
@@ -420,7 +522,7 @@ mod tests {
     #[test]
     fn flip_changes_one_byte() {
         let mut dice = Dice::new(14);
-        let message = Maker::trade(&ABCD);
+        let message = PLUS.trade(&ABCD);
         for at in 0..45 {
             let flipped = flip(&message, at, &mut dice);
             let away: Vec<usize> = (0..45).filter(|i| flipped[*i] != message[*i]).collect();
@@ -432,25 +534,28 @@ mod tests {
     #[test]
     fn cut_and_retype() {
         let mut dice = Dice::new(15);
-        let message = Maker::trade(&ABCD);
+        let message = PLUS.trade(&ABCD);
         for length in 0..=100 {
             let out = cut(&message, length, &mut dice);
             let kept = length.min(45);
             assert_eq!((out.len(), &out[..kept]), (length, &message[..kept]));
         }
-        assert_eq!(retype(&message, b'X'), Maker::cancel(&ABCD));
-        assert_eq!(retype(b"abcd", b'X'), b"abcd");
+        assert_eq!(retype(&message, 4, b'X'), PLUS.cancel(&ABCD));
+        assert_eq!(retype(b"abcd", 4, b'X'), b"abcd");
     }
 
     #[test]
     fn broken_ones_are_refused_in_both_ways_and_sometimes_read() {
         let mut dice = Dice::new(16);
-        let mut seen = [0; 6];
-        for _ in 0..2_000 {
-            let message = Maker::broken(&mut dice, &Maker::trade(&ABCD));
-            assert!(message.len() <= 100);
-            seen[usize::from(plain::read(&message).0.number())] += 1;
+        for maker in [PLUS, PLS] {
+            let mut seen = [0; 6];
+            for _ in 0..2_000 {
+                let good = maker.some_of(&mut dice, b'T');
+                let message = maker.broken(&mut dice, &good);
+                assert!(message.len() <= 100);
+                seen[usize::from(read(maker, &message).number())] += 1;
+            }
+            assert!(seen[0] > 100 && seen[4] > 300 && seen[5] > 300, "{seen:?}");
         }
-        assert!(seen[0] > 100 && seen[4] > 400 && seen[5] > 300, "{seen:?}");
     }
 }

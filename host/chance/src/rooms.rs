@@ -1,7 +1,7 @@
 //! Contents of lent room: what a book may find there before it writes.
 
 use crate::dice::Dice;
-use crate::maker::{Maker, CENTRES, LEVELS, SYMBOLS};
+use crate::maker::{Maker, LEVELS, SYMBOLS};
 
 /// Bytes of a row's cell.
 pub const ROW: usize = 30;
@@ -78,11 +78,12 @@ fn line(dice: &mut Dice) -> Vec<u8> {
         let level = dice.index(4);
         condition[level] = dice.pick(&[b'?', b'J', 0, 255, LEVELS[(level + 1) % 4][1]]);
     }
-    let mut out = vec![if dice.chance(20) { dice.roll() as u8 } else { dice.pick(&CENTRES) }];
+    // X most often: every edition has it.
+    let mut out = vec![if dice.chance(20) { dice.roll() as u8 } else { dice.pick(b"QLBXXX") }];
     out.extend(maker.some_control(dice));
     out.extend(symbol(dice));
     out.extend(price(dice).to_be_bytes());
-    out.extend(if dice.chance(20) { 0 } else { Maker::some_size(dice) }.to_be_bytes());
+    out.extend(if dice.chance(20) { 0 } else { maker.some_size(dice) }.to_be_bytes());
     out.extend(condition);
     // Few places, so that the greatest is often shared.
     let place = dice.pick(&[0, 1, 2, 3, 3, 4, 4, u32::MAX]);
@@ -95,7 +96,7 @@ fn line(dice: &mut Dice) -> Vec<u8> {
 #[cfg(test)]
 mod tests {
     use super::*;
-    use plain::{row as read_row, Counters};
+    use plain::{fresh, row as read_row, Counters, Edition};
 
     #[test]
     fn any_length_of_any_kind() {
@@ -140,7 +141,7 @@ mod tests {
         let mut dice = Dice::new(34);
         let rows = contents(&mut dice, Kind::Rows, 20 * ROW);
         let lines = contents(&mut dice, Kind::Lines, 200 * LINE);
-        let counters = Counters { wanted: 1, phase: 0, rows: 20, lines: 200, taken: 0 };
+        let counters = Counters { rows: 20, lines: 200, ..fresh(Edition::NlsPlus) };
         let found: Vec<_> = SYMBOLS
             .into_iter()
             .map(|symbol| read_row(&counters, &rows, &lines, symbol))

@@ -1,7 +1,7 @@
 //! The plain book under random input: every call answers, and a refusal changes what it may.
 
 use chance::{contents, odd_counters, Counts, Dice, Kind, Maker, LINE, ROW, SYMBOLS};
-use plain::{deliver, list, read, row, write, Answer, Counters, Record, Row};
+use plain::{deliver, list, read, row, write, Answer, Counters, Edition, Record, Row};
 
 /// A book over lent room.
 #[derive(Clone, PartialEq, Debug)]
@@ -14,29 +14,33 @@ struct Desk {
 fn some_desk(dice: &mut Dice) -> Desk {
     let (rows, lines) = (dice.index(6 * ROW), dice.index(30 * LINE));
     let limits = ((rows / ROW) as u64, (lines / LINE) as u64);
-    let Counts { wanted, phase, rows: used, lines: trades, taken } =
+    let Counts { wanted, phase, rows: used, lines: trades, taken, edition } =
         odd_counters(dice, limits.0, limits.1);
+    let edition = Edition::of(edition).unwrap_or(Edition::NlsPlus);
     let kind = dice.pick(&[Kind::Zeros, Kind::Random, Kind::Rows, Kind::Rows, Kind::Rows]);
     let rows = contents(dice, kind, rows);
     let kind = dice.pick(&[Kind::Zeros, Kind::Random, Kind::Lines, Kind::Lines, Kind::Lines]);
     let lines = contents(dice, kind, lines);
-    Desk { counters: Counters { wanted, phase, rows: used, lines: trades, taken }, rows, lines }
+    let counters = Counters { edition, wanted, phase, rows: used, lines: trades, taken };
+    Desk { counters, rows, lines }
 }
 
-/// Mostly a lawful message, often about the first line of the room.
+fn maker(edition: Edition) -> Maker {
+    Maker::of(chance::Edition::ALL[edition.number() as usize], 12)
+}
+
+/// Mostly a lawful message of the book's edition, often about a line of the room.
 fn some_message(dice: &mut Dice, desk: &Desk) -> Vec<u8> {
-    let mut message = Maker::new(12).some_message(dice);
+    let maker = maker(desk.counters.edition);
+    let mut message = maker.some_message(dice);
     if desk.lines.len() >= LINE && message.len() > 40 && dice.chance(2) {
         let lines = desk.lines.len() / LINE;
         let at = dice.index(lines) * LINE;
-        let line = &desk.lines[at..at + LINE];
-        message[5] = line[0];
-        message[6..14].copy_from_slice(&line[11..19]);
-        message[15..25].copy_from_slice(&line[1..11]);
-        message[25..37].copy_from_slice(&line[19..31]);
+        let letter = message[maker.letter_at()];
+        message = maker.of_line(dice, letter, &desk.lines[at..at + LINE]);
     }
     if dice.chance(8) {
-        message = Maker::broken(dice, &message);
+        message = maker.broken(dice, &message);
     }
     message
 }
@@ -67,7 +71,8 @@ fn deliver_answers_and_a_refusal_uses_up_at_most_the_number() {
             desk.counters.wanted = before.counters.wanted;
             assert_eq!(desk, before);
         } else {
-            assert_eq!((number, read(&message).0), (before.counters.wanted, Answer::Done));
+            let told = read(before.counters.edition, &message).0;
+            assert_eq!((number, told), (before.counters.wanted, Answer::Done));
             assert_only_used_cells_changed(&before, &desk);
         }
     }
@@ -140,26 +145,32 @@ fn row_answers_0_7_or_17() {
 #[test]
 fn what_is_read_is_written_back() {
     let mut dice = Dice::new(54);
-    let mut seen = [0; 19];
-    for _ in 0..100_000 {
-        let good = Maker::new(99).some_message(&mut dice);
-        let message = if dice.chance(2) { Maker::broken(&mut dice, &good) } else { good };
-        let (answer, record) = read(&message);
-        seen[usize::from(answer.number())] += 1;
-        if answer != Answer::Done {
-            assert_eq!(record, Record::default());
-            continue;
+    for edition in Edition::ALL {
+        let mut seen = [0; 19];
+        for _ in 0..100_000 {
+            let maker = maker(edition);
+            let good = maker.some_message(&mut dice);
+            let message = if dice.chance(2) { maker.broken(&mut dice, &good) } else { good };
+            let (answer, record) = read(edition, &message);
+            seen[usize::from(answer.number())] += 1;
+            if answer != Answer::Done {
+                assert_eq!(record, Record::default());
+                continue;
+            }
+            let before = dice.bytes(90);
+            let mut out = before.clone();
+            assert_eq!(write(edition, &record, &mut out), Answer::Done);
+            let (front, behind) = out.split_at(message.len());
+            assert_eq!(
+                (read(edition, front), behind),
+                ((answer, record), &before[message.len()..])
+            );
+            // The bytes come back too, but for numbers that may be spelled in more than one way.
+            assert!(front == message || edition == Edition::Pls);
+            let mut short = out[..dice.index(message.len())].to_vec();
+            let kept = short.clone();
+            assert_eq!((write(edition, &record, &mut short), short), (Answer::NoSpace, kept));
         }
-        let before = dice.bytes(70);
-        let mut out = before.clone();
-        assert_eq!(write(&record, &mut out), Answer::Done);
-        assert_eq!(
-            (&out[..message.len()], &out[message.len()..]),
-            (&message[..], &before[message.len()..])
-        );
-        let mut short = out[..dice.index(message.len())].to_vec();
-        let kept = short.clone();
-        assert_eq!((write(&record, &mut short), short), (Answer::NoSpace, kept));
+        assert!([0, 4, 5].iter().all(|answer| seen[*answer] > 10_000), "{seen:?}");
     }
-    assert!([0, 4, 5].iter().all(|answer| seen[*answer] > 10_000), "{seen:?}");
 }

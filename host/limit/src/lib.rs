@@ -1,4 +1,4 @@
-//! The reader and the writer of one message, with the rules of the proved library asked in its order, but with every load and store
+//! The reader and the writer of one message of NLS Plus, with the rules of the proved library asked in its order, but with every load and store
 //! unchecked once the length is known. How far the library is from it is what its checks, its calls and its copying still cost. For the
 //! bench alone.
 #![deny(unsafe_op_in_unsafe_fn, clippy::undocumented_unsafe_blocks)]

@@ -1,6 +1,6 @@
-//! The limit against the linked library: same answer, same bytes, and nothing beside what was lent.
+//! The limit against the linked library: same answer, same bytes, and nothing beside what was lent. It has NLS Plus alone.
 use chance::{flip, Dice, Maker};
-use sorundappa::raw;
+use sorundappa::{raw, Edition};
 
 const TRIES: usize = 20_000;
 // What stands before and behind a lent space, and must stay.
@@ -9,7 +9,7 @@ const STRIP: usize = 16;
 // A message read by both into bytes of other contents: the answer and the record.
 fn read(message: &[u8]) -> (u8, [u8; 80]) {
     let (mut record, mut other) = ([0xEE; 80], [0x11; 80]);
-    let told = raw::read(message, &mut record);
+    let told = raw::read(Edition::NlsPlus.number(), message, &mut record);
     assert_eq!(limit::read(message, &mut other), told, "{message:?}");
     assert_eq!(other, record, "{message:?}");
     (told, record)
@@ -20,7 +20,7 @@ fn write(dice: &mut Dice, record: &[u8; 80]) -> u8 {
     let length = if dice.chance(2) { 67 } else { dice.index(71) };
     let before = dice.bytes(STRIP + length + STRIP);
     let (mut space, mut other) = (before.clone(), before.clone());
-    let told = raw::write(record, &mut space[STRIP..STRIP + length]);
+    let told = raw::write(Edition::NlsPlus.number(), record, &mut space[STRIP..STRIP + length]);
     assert_eq!(limit::write(record, &mut other[STRIP..STRIP + length]), told, "{record:?}");
     assert_eq!(other, space, "{record:?}");
     assert!(told == 0 || other == before, "{told} and the space moved: {record:?}");
@@ -40,7 +40,7 @@ fn at_bound(dice: &mut Dice, bytes: &mut [u8], places: &[usize]) {
 // A message broken in one of the ways of `chance`, or with a number at a bound.
 fn broken_message(dice: &mut Dice, lawful: &[u8]) -> Vec<u8> {
     if dice.chance(2) {
-        return Maker::broken(dice, lawful);
+        return Maker::new(0).broken(dice, lawful);
     }
     let mut message = lawful.to_vec();
     at_bound(dice, &mut message, &[0, 14, 18, 22, 25, 29, 47, 51]);

@@ -2,7 +2,9 @@
 
 use crate::answer::Answer;
 use crate::cells::{LineCell, RowCell, LINE, ROW};
-use crate::message::{is_text, marks, parse, phase_of, Record, SETS_LAST, SETS_RANGE, TOP_PRICE};
+use crate::edition::Edition;
+use crate::message::parse;
+use crate::record::{is_text, marks, phase_of, Record, SETS_LAST, SETS_RANGE, TOP_PRICE};
 
 /// The greatest number a message can bear.
 const LAST_NUMBER: u64 = 4_294_967_295;
@@ -11,9 +13,10 @@ const MOST_LINES: usize = 65_536;
 /// The phase after the day's last event.
 const CLOSED: u64 = 6;
 
-/// What a book counts. Phase 0 is none, 1 to 6 are the events O S Q M E C.
+/// The edition that a book was started for, which stays, and what it counts. Phase 0 is none, 1 to 6 are the events O S Q M E C.
 #[derive(Clone, Copy, Debug, PartialEq, Eq)]
 pub struct Counters {
+    pub edition: Edition,
     pub wanted: u64,
     pub phase: u64,
     pub rows: u64,
@@ -36,9 +39,9 @@ pub struct Row {
     pub reported: Option<u64>,
 }
 
-/// The counters of a book at the day's start.
-pub fn fresh() -> Counters {
-    Counters { wanted: 1, phase: 0, rows: 0, lines: 0, taken: 0 }
+/// The counters of an edition's book at the day's start.
+pub fn fresh(edition: Edition) -> Counters {
+    Counters { edition, wanted: 1, phase: 0, rows: 0, lines: 0, taken: 0 }
 }
 
 fn row_limit(rows: &[u8]) -> u64 {
@@ -148,7 +151,7 @@ fn take(
     lines: &mut [u8],
     message: &[u8],
 ) -> Result<(), Answer> {
-    let record = parse(message)?;
+    let record = parse(counters.edition, message)?;
     if record.letter == b'S' {
         return take_event(counters, record.event);
     }
@@ -163,7 +166,9 @@ fn take(
         b'C' => take_correction(counters, lines, &record)?,
         _ => RowCell::set_summary(cell, record.high, record.low),
     }
-    RowCell::set_reported(cell, record.consolidated);
+    if counters.edition.reports() {
+        RowCell::set_reported(cell, record.consolidated);
+    }
     Ok(())
 }
 

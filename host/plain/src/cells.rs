@@ -1,7 +1,8 @@
 //! The cells that the lent bytes are cut into: 30 bytes for a row, 40 for a line. Document 01 leaves their layout and the marks' values
 //! open; both are the proved book's, so that the rooms of the two can be compared byte by byte.
 
-use crate::message::{field, put, Sale};
+use crate::bytes::{field, put};
+use crate::record::Sale;
 
 /// Bytes of a row's cell: symbol 0/8, close 8/4, J mark 12, high 13/4, low 17/4,
 /// reported mark 21, reported volume 22/8.

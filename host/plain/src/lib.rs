@@ -4,9 +4,16 @@
 
 mod answer;
 mod book;
+mod bytes;
 mod cells;
+mod edition;
 mod message;
+mod nls_plus;
+mod pls;
+mod record;
 
 pub use answer::Answer;
 pub use book::{deliver, fresh, list, row, Counters, Row};
-pub use message::{read, write, Record, Sale};
+pub use edition::Edition;
+pub use message::{read, write};
+pub use record::{Record, Sale};

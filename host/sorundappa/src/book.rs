@@ -1,5 +1,6 @@
 //! The book of one day, over room that is lent to it.
 use crate::answer::{DeliverError, ListError, RowError};
+use crate::edition::Edition;
 use crate::raw;
 
 /// A row as it reads. Prices are in ten-thousandths; last, high, low, volume and count are over live lines only.
@@ -19,7 +20,7 @@ pub struct Row {
     pub count: u64,
     /// Whether a J was taken and the latest one's high and low are this row's, an absent one counting as 0.
     pub agrees: bool,
-    /// The consolidated volume that a taken T, X, C or J reported last.
+    /// The consolidated volume that a taken T, X, C or J reported last. Messages of PLS report none.
     pub reported: Option<u64>,
 }
 
@@ -45,9 +46,11 @@ fn there<T>(mark: u64, figure: T) -> Option<T> {
     (mark == 1).then_some(figure)
 }
 
-/// How far the day is. All five move together, and only [`Book::list`] and [`Book::deliver`] move them.
+/// How far the day is. All but the edition, which stays, move together, and only [`Book::list`] and [`Book::deliver`] move them.
 #[derive(Clone, Copy, Debug, PartialEq, Eq)]
 pub struct Counters {
+    /// The edition that the book was started for.
+    pub edition: Edition,
     /// The next number that can be used.
     pub wanted: u64,
     /// 0 before any event was taken, then 1 to 6 for `O S Q M E C`.
@@ -59,11 +62,13 @@ pub struct Counters {
 
 impl Counters {
     fn words(self) -> raw::Counters {
-        [self.wanted, self.phase, self.rows, self.lines, self.taken]
+        [self.wanted, self.phase, self.rows, self.lines, self.taken, self.edition.number()]
     }
 
+    // A book of this crate is started for an edition, and its word stays.
     fn of(w: raw::Counters) -> Counters {
-        Counters { wanted: w[0], phase: w[1], rows: w[2], lines: w[3], taken: w[4] }
+        let edition = Edition::of(w[5]).expect("an edition's number");
+        Counters { edition, wanted: w[0], phase: w[1], rows: w[2], lines: w[3], taken: w[4] }
     }
 }
 
@@ -80,10 +85,10 @@ pub const fn room_for_lines(lines: usize) -> usize {
 /// The book. It keeps its rows and lines in bytes that the caller lends, and allocates nothing.
 ///
 /// ```
-/// use sorundappa::{room_for_lines, room_for_rows, Book, DeliverError};
+/// use sorundappa::{room_for_lines, room_for_rows, Book, DeliverError, Edition};
 ///
 /// let (mut rows, mut lines) = ([0; room_for_rows(4)], [0; room_for_lines(16)]);
-/// let mut book = Book::start(&mut rows, &mut lines);
+/// let mut book = Book::start(Edition::NlsPlus, &mut rows, &mut lines);
 /// book.list(*b"ABCD    ", 250_000)?;
 ///
 /// book.deliver(1, b"\x00\x00\x03\xe8SO")?;
@@ -104,10 +109,19 @@ pub struct Book<'room> {
 }
 
 impl<'room> Book<'room> {
-    /// A fresh book. Starting one cannot be refused and writes no lent byte.
-    pub fn start(rows: &'room mut [u8], lines: &'room mut [u8]) -> Book<'room> {
-        let mut counters = [0; 5];
-        raw::start(&mut counters);
+    /// A fresh book of an edition, which reads its messages by that edition and no other. Starting one cannot be refused and writes no
+    /// lent byte.
+    ///
+    /// ```
+    /// use sorundappa::{Book, DeliverError, Edition};
+    /// let mut book = Book::start(Edition::Pls, &mut [], &mut []);
+    /// assert_eq!(book.deliver(1, b"\x00\x00\x03\xe8SO"), Err(DeliverError::NoType));
+    /// assert_eq!(book.deliver(2, b"    1000SO"), Ok(()));
+    /// assert_eq!(book.counters().edition, Edition::Pls);
+    /// ```
+    pub fn start(edition: Edition, rows: &'room mut [u8], lines: &'room mut [u8]) -> Book<'room> {
+        let mut counters = [0; 6];
+        raw::start(&mut counters, edition.number());
         Book { counters, rows, lines }
     }
 
@@ -115,8 +129,8 @@ impl<'room> Book<'room> {
     /// cannot be are answered as an unsound book.
     ///
     /// ```
-    /// use sorundappa::{Book, Counters, ListError};
-    /// let off = Counters { wanted: 0, phase: 0, rows: 0, lines: 0, taken: 0 };
+    /// use sorundappa::{Book, Counters, Edition, ListError};
+    /// let off = Counters { edition: Edition::NlsPlus, wanted: 0, phase: 0, rows: 0, lines: 0, taken: 0 };
     /// let mut book = Book::resume(off, &mut [], &mut []);
     /// assert_eq!(book.list(*b"ABCD    ", 0), Err(ListError::Unsound));
     /// ```
@@ -133,9 +147,9 @@ impl<'room> Book<'room> {
     /// taken and nothing reported.
     ///
     /// ```
-    /// use sorundappa::{room_for_rows, Book, ListError, Row};
+    /// use sorundappa::{room_for_rows, Book, Edition, ListError, Row};
     /// let mut rows = [0; room_for_rows(1)];
-    /// let mut book = Book::start(&mut rows, &mut []);
+    /// let mut book = Book::start(Edition::NlsPlus, &mut rows, &mut []);
     /// assert_eq!(book.list(*b"ABCD\0\0\0\0", 250_000), Err(ListError::ListingBroken));
     /// assert_eq!(book.list(*b"ABCD    ", 2_000_000_001), Err(ListError::ListingBroken));
     /// assert_eq!(book.list(*b"ABCD    ", 0), Ok(()));

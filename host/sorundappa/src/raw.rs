@@ -2,8 +2,8 @@
 //! writes only what it is lent, whatever that is (`docs/PROMISES.md`), and what it demands of a pointer holds of every reference:
 //! good for its length, never null, and what is written overlaps nothing else. That these declarations are the library's own is tested.
 
-/// A book's counters: wanted number, phase, rows used, lines used, messages taken.
-pub type Counters = [u64; 5];
+/// A book's counters: wanted number, phase, rows used, lines used, messages taken, and the number of the edition that it was started for.
+pub type Counters = [u64; 6];
 
 /// A row: symbol, close, then last, high, low, net each behind its mark, volume, count, agrees, and reported behind its mark.
 pub type Figures = [u64; 15];
@@ -11,7 +11,8 @@ pub type Figures = [u64; 15];
 /// A record's bytes, every field of every type at an offset of its own.
 pub type RecordBytes = [u8; 80];
 
-/// What [`size`] can be asked. The last seven: words of [`Counters`] and of [`Figures`], and the bytes of a message of each type.
+/// What [`size`] can be asked. The last: words of [`Counters`] and of [`Figures`], and the bytes of a message of each type, of NLS Plus
+/// and then of PLS.
 #[derive(Clone, Copy, Debug, PartialEq, Eq)]
 #[repr(u64)]
 pub enum Size {
@@ -28,12 +29,16 @@ pub enum Size {
     MessageX = 10,
     MessageC = 11,
     MessageJ = 12,
+    PlsS = 13,
+    PlsT = 14,
+    PlsX = 15,
+    PlsC = 16,
 }
 
 mod linked {
     // A slice crosses as its pointer and its length; a reference to an array as its pointer.
     extern "C" {
-        pub fn sorundappa_start(counters: *mut u64);
+        pub fn sorundappa_start(counters: *mut u64, edition: u64);
         pub fn sorundappa_list(
             counters: *mut u64,
             rows: *mut u8,
@@ -62,16 +67,27 @@ mod linked {
             symbol: *const u8,
             row: *mut u64,
         ) -> u8;
-        pub fn sorundappa_read(message: *const u8, message_bytes: usize, record: *mut u8) -> u8;
-        pub fn sorundappa_write(record: *const u8, out: *mut u8, out_bytes: usize) -> u8;
+        pub fn sorundappa_read(
+            edition: u64,
+            message: *const u8,
+            message_bytes: usize,
+            record: *mut u8,
+        ) -> u8;
+        pub fn sorundappa_write(
+            edition: u64,
+            record: *const u8,
+            out: *mut u8,
+            out_bytes: usize,
+        ) -> u8;
         pub fn sorundappa_size(which: u64) -> u64;
     }
 }
 
-/// Makes the counters those of a fresh book.
-pub fn start(counters: &mut Counters) {
-    // SAFETY: five words that nobody else holds; the call writes these and nothing else.
-    unsafe { linked::sorundappa_start(counters.as_mut_ptr()) }
+/// Makes the counters those of a fresh book of an edition. Of a number that is no edition's they are no book's, and every call on them
+/// answers 17.
+pub fn start(counters: &mut Counters, edition: u64) {
+    // SAFETY: six words that nobody else holds; the call writes these and nothing else.
+    unsafe { linked::sorundappa_start(counters.as_mut_ptr(), edition) }
 }
 
 /// Lists a symbol with its close: 0, and a row was added; or 13 to 17, and nothing changed.
@@ -142,16 +158,19 @@ pub fn row(
     }
 }
 
-/// Reads a message alone: 0; or 4 or 5, and every byte of the record is 0.
-pub fn read(message: &[u8], record: &mut RecordBytes) -> u8 {
+/// Reads a message alone by an edition: 0; or 4 or 5, and every byte of the record is 0. A number that is no edition's is answered 4.
+pub fn read(edition: u64, message: &[u8], record: &mut RecordBytes) -> u8 {
     // SAFETY: as for `list`.
-    unsafe { linked::sorundappa_read(message.as_ptr(), message.len(), record.as_mut_ptr()) }
+    unsafe {
+        linked::sorundappa_read(edition, message.as_ptr(), message.len(), record.as_mut_ptr())
+    }
 }
 
-/// Writes a record's message to the front of `out`: 0, and the bytes past it stay; or 5, or else 18, and all of `out` stays.
-pub fn write(record: &RecordBytes, out: &mut [u8]) -> u8 {
+/// Writes a record's message by an edition to the front of `out`: 0, and the bytes past it stay; or 5, or else 18, and all of `out`
+/// stays. A number that is no edition's is answered 5.
+pub fn write(edition: u64, record: &RecordBytes, out: &mut [u8]) -> u8 {
     // SAFETY: as for `list`.
-    unsafe { linked::sorundappa_write(record.as_ptr(), out.as_mut_ptr(), out.len()) }
+    unsafe { linked::sorundappa_write(edition, record.as_ptr(), out.as_mut_ptr(), out.len()) }
 }
 
 /// A size of the linked library.

@@ -1,5 +1,6 @@
 //! One message of the feed as a record, read from bytes and written to bytes.
 use crate::answer::{ReadError, WriteError};
+use crate::edition::Edition;
 use crate::raw;
 
 /// What a message says of one trade.
@@ -12,10 +13,10 @@ pub struct Sale {
     pub condition: [u8; 4],
 }
 
-/// A message. A field that its type lacks is zero, and a record with another value there is not written.
+/// A message. A field that its type lacks in its edition is zero, and a record with another value there is not written.
 #[derive(Clone, Copy, Debug, Default, PartialEq, Eq)]
 pub struct Record {
-    /// The type's letter: `S T X C J`.
+    /// The type's letter: `S T X C J`, of which PLS has no `J`.
     pub letter: u8,
     /// Milliseconds past midnight.
     pub time: u32,
@@ -34,35 +35,37 @@ pub struct Record {
 }
 
 impl Record {
-    /// Reads a message.
+    /// Reads a message of an edition.
     ///
     /// ```
-    /// use sorundappa::{ReadError, Record};
-    /// let event = Record::read(b"\x00\x00\x03\xe8SO").unwrap();
+    /// use sorundappa::{Edition, ReadError, Record};
+    /// let event = Record::read(Edition::NlsPlus, b"\x00\x00\x03\xe8SO").unwrap();
     /// assert_eq!((event.letter, event.time, event.event), (b'S', 1000, b'O'));
-    /// assert_eq!(Record::read(b"\x00\x00\x03\xe8SZ"), Err(ReadError::FieldBroken));
-    /// assert_eq!(Record::read(b""), Err(ReadError::NoType));
+    /// assert_eq!(Record::read(Edition::NlsPlus, b"\x00\x00\x03\xe8SZ"), Err(ReadError::FieldBroken));
+    /// assert_eq!(Record::read(Edition::Pls, b"    1000SO"), Ok(event));
+    /// assert_eq!(Record::read(Edition::Pls, b"\x00\x00\x03\xe8SO"), Err(ReadError::NoType));
     /// ```
-    pub fn read(message: &[u8]) -> Result<Record, ReadError> {
+    pub fn read(edition: Edition, message: &[u8]) -> Result<Record, ReadError> {
         let mut bytes = [0; 80];
-        let told = raw::read(message, &mut bytes);
+        let told = raw::read(edition.number(), message, &mut bytes);
         ReadError::told(told).map(|()| Record::of(&bytes))
     }
 
-    /// Writes the message to the front of `out`, the bytes behind it as they were, and says how long it is.
+    /// Writes the message of an edition to the front of `out`, the bytes behind it as they were, and says how long it is.
     ///
     /// ```
-    /// use sorundappa::{Record, WriteError};
+    /// use sorundappa::{Edition, Record, WriteError};
     /// let event = Record { letter: b'S', time: 1000, event: b'O', ..Record::default() };
-    /// let mut out = [7; 8];
-    /// assert_eq!(event.write(&mut out), Ok(6));
-    /// assert_eq!(&out, b"\x00\x00\x03\xe8SO\x07\x07");
-    /// assert_eq!(event.write(&mut out[..5]), Err(WriteError::NoSpace));
+    /// let mut out = [7; 12];
+    /// assert_eq!(event.write(Edition::Pls, &mut out), Ok(10));
+    /// assert_eq!(&out, b"    1000SO\x07\x07");
+    /// assert_eq!(event.write(Edition::NlsPlus, &mut out[..5]), Err(WriteError::NoSpace));
     /// let classed = Record { class: b'Q', ..event };
-    /// assert_eq!(classed.write(&mut out), Err(WriteError::FieldBroken));
+    /// assert_eq!(classed.write(Edition::NlsPlus, &mut out), Err(WriteError::FieldBroken));
     /// ```
-    pub fn write(&self, out: &mut [u8]) -> Result<usize, WriteError> {
-        WriteError::told(raw::write(&self.bytes(), out)).map(|()| length(self.letter))
+    pub fn write(&self, edition: Edition, out: &mut [u8]) -> Result<usize, WriteError> {
+        WriteError::told(raw::write(edition.number(), &self.bytes(), out))
+            .map(|()| edition.length(self.letter))
     }
 
     /// The record in the form that crosses to the library.
@@ -124,15 +127,4 @@ fn part<const N: usize>(bytes: &raw::RecordBytes, at: usize) -> [u8; N] {
     let mut out = [0; N];
     out.copy_from_slice(&bytes[at..at + N]);
     out
-}
-
-// The length of a type's messages.
-fn length(letter: u8) -> usize {
-    match letter {
-        b'S' => 6,
-        b'T' | b'X' => 45,
-        b'C' => 67,
-        b'J' => 34,
-        _ => 0,
-    }
 }

@@ -1,9 +1,11 @@
 //! The wrapper on document 01's days: what crosses to the library and back arrives as it is named.
 use sorundappa::raw::{self, Size};
 use sorundappa::{
-    room_for_lines, room_for_rows, Answer, Book, Counters, DeliverError, ListError, ReadError,
-    Record, Row, RowError, Sale, WriteError,
+    room_for_lines, room_for_rows, Answer, Book, Counters, DeliverError, Edition, ListError,
+    ReadError, Record, Row, RowError, Sale, WriteError,
 };
+
+use Edition::{NlsPlus, Pls};
 
 const ABCD: [u8; 8] = *b"ABCD    ";
 
@@ -13,10 +15,14 @@ fn sale(control: &str, price: u32, size: u32, condition: &[u8; 4]) -> Sale {
     Sale { control: bytes, price, size, condition: *condition }
 }
 
-fn written(record: Record) -> Vec<u8> {
-    let mut out = [0; 67];
-    let n = record.write(&mut out).expect("a lawful record is written");
+fn written_by(edition: Edition, record: Record) -> Vec<u8> {
+    let mut out = [0; 85];
+    let n = record.write(edition, &mut out).expect("a lawful record is written");
     out[..n].to_vec()
+}
+
+fn written(record: Record) -> Vec<u8> {
+    written_by(NlsPlus, record)
 }
 
 fn trade(letter: u8, time: u32, centre: u8, sale: Sale, consolidated: u64) -> Record {
@@ -52,7 +58,7 @@ fn day_w() -> Vec<Vec<u8>> {
 #[test]
 fn day_w_number_by_number() {
     let (mut rows, mut lines) = (vec![0xAA; room_for_rows(2)], vec![0x55; room_for_lines(4)]);
-    let mut book = Book::start(&mut rows, &mut lines);
+    let mut book = Book::start(NlsPlus, &mut rows, &mut lines);
     assert_eq!(book.list(ABCD, 250_000), Ok(()));
     // last, high, low, net, volume, count, reported after each number
     let after = [
@@ -80,7 +86,10 @@ fn day_w_number_by_number() {
         };
         assert_eq!(book.row(ABCD), Ok(row), "after number {}", i + 1);
     }
-    assert_eq!(book.counters(), Counters { wanted: 7, phase: 1, rows: 1, lines: 4, taken: 6 });
+    assert_eq!(
+        book.counters(),
+        Counters { edition: NlsPlus, wanted: 7, phase: 1, rows: 1, lines: 4, taken: 6 }
+    );
     let again = &day_w()[4];
     assert_eq!(book.deliver(7, again), Err(DeliverError::LineDead));
     assert_eq!(book.counters().wanted, 8);
@@ -89,7 +98,7 @@ fn day_w_number_by_number() {
 #[test]
 fn a_net_below_zero() {
     let (mut rows, mut lines) = (vec![0; room_for_rows(1)], vec![0; room_for_lines(1)]);
-    let mut book = Book::start(&mut rows, &mut lines);
+    let mut book = Book::start(NlsPlus, &mut rows, &mut lines);
     book.list(ABCD, 2_000_000_000).unwrap();
     book.deliver(1, &day_w()[0]).unwrap();
     book.deliver(2, &written(trade(b'T', 0, b'B', sale("1", 1, 1, b"@   "), 0))).unwrap();
@@ -99,7 +108,7 @@ fn a_net_below_zero() {
 #[test]
 fn a_summary_agrees() {
     let (mut rows, mut lines) = (vec![0; room_for_rows(1)], vec![0; room_for_lines(2)]);
-    let mut book = Book::start(&mut rows, &mut lines);
+    let mut book = Book::start(NlsPlus, &mut rows, &mut lines);
     book.list(ABCD, 0).unwrap();
     for (number, message) in (1..).zip(&day_w()[..3]) {
         book.deliver(number, message).unwrap();
@@ -124,7 +133,7 @@ fn a_summary_agrees() {
 #[test]
 fn refusals_by_name() {
     let (mut rows, mut lines) = (vec![0; room_for_rows(1)], vec![]);
-    let mut book = Book::start(&mut rows, &mut lines);
+    let mut book = Book::start(NlsPlus, &mut rows, &mut lines);
     assert_eq!(book.row(ABCD), Err(RowError::NotListed));
     assert_eq!(book.list(*b" ABCD   ", 1), Err(ListError::ListingBroken));
     assert_eq!(book.list(ABCD, 1), Ok(()));
@@ -141,12 +150,15 @@ fn refusals_by_name() {
     assert_eq!(book.deliver(3, &day[1]), Err(DeliverError::LinesFull));
     assert_eq!(book.deliver(4, &day[4]), Err(DeliverError::NoLine));
     assert_eq!(book.deliver(5, b""), Err(DeliverError::NoType));
-    assert_eq!(book.counters(), Counters { wanted: 6, phase: 1, rows: 1, lines: 0, taken: 1 });
+    assert_eq!(
+        book.counters(),
+        Counters { edition: NlsPlus, wanted: 6, phase: 1, rows: 1, lines: 0, taken: 1 }
+    );
 }
 
 #[test]
 fn an_unsound_book() {
-    let off = Counters { wanted: 3, phase: 7, rows: 0, lines: 0, taken: 0 };
+    let off = Counters { edition: NlsPlus, wanted: 3, phase: 7, rows: 0, lines: 0, taken: 0 };
     let mut book = Book::resume(off, &mut [], &mut []);
     assert_eq!(book.list(ABCD, 1), Err(ListError::Unsound));
     assert_eq!(book.deliver(3, &[]), Err(DeliverError::Unsound));
@@ -157,16 +169,19 @@ fn an_unsound_book() {
 #[test]
 fn records_there_and_back() {
     for message in day_w() {
-        let record = Record::read(&message).unwrap();
+        let record = Record::read(NlsPlus, &message).unwrap();
         assert_eq!(written(record), message);
         assert_eq!(Record::of(&record.bytes()), record);
     }
-    let correction = Record::read(&day_w()[5]).unwrap();
+    let correction = Record::read(NlsPlus, &day_w()[5]).unwrap();
     assert_eq!(correction.new, sale("9", 252_500, 120, b"@   "));
-    assert_eq!(Record::read(&[0; 45]), Err(ReadError::NoType));
+    assert_eq!(Record::read(NlsPlus, &[0; 45]), Err(ReadError::NoType));
     let mut out = [3; 66];
-    assert_eq!(correction.write(&mut out), Err(WriteError::NoSpace));
-    assert_eq!(Record { event: 1, ..correction }.write(&mut out), Err(WriteError::FieldBroken));
+    assert_eq!(correction.write(NlsPlus, &mut out), Err(WriteError::NoSpace));
+    assert_eq!(
+        Record { event: 1, ..correction }.write(NlsPlus, &mut out),
+        Err(WriteError::FieldBroken)
+    );
     assert_eq!(out, [3; 66]);
 }
 
@@ -174,7 +189,7 @@ fn records_there_and_back() {
 #[test]
 fn every_field_from_its_own_bytes() {
     let event = Record { letter: b'S', time: 0x0102_0304, event: b'M', ..Record::default() };
-    assert_eq!(Record::read(b"\x01\x02\x03\x04SM"), Ok(event));
+    assert_eq!(Record::read(NlsPlus, b"\x01\x02\x03\x04SM"), Ok(event));
     let summary = Record {
         letter: b'J',
         time: 0x0102_0304,
@@ -187,7 +202,7 @@ fn every_field_from_its_own_bytes() {
         ..Record::default()
     };
     let message = b"\x01\x02\x03\x04JABCD    N1234ABCDQRSTabcdefgh";
-    assert_eq!(Record::read(message), Ok(summary));
+    assert_eq!(Record::read(NlsPlus, message), Ok(summary));
     assert_eq!(written(summary), message);
     for at in 0..80 {
         let mut bytes = [0; 80];
@@ -199,7 +214,7 @@ fn every_field_from_its_own_bytes() {
 #[test]
 fn figures_that_are_absent() {
     let (mut rows, mut lines) = (vec![0; room_for_rows(1)], vec![0; room_for_lines(1)]);
-    let mut book = Book::start(&mut rows, &mut lines);
+    let mut book = Book::start(NlsPlus, &mut rows, &mut lines);
     book.list(ABCD, 250_000).unwrap();
     let listed = Row { symbol: ABCD, close: 250_000, ..Row::default() };
     assert_eq!(book.row(ABCD), Ok(listed));
@@ -218,7 +233,7 @@ fn sizes_are_those_of_the_linked_library() {
     assert_eq!(raw::size(Size::RowBytes), room_for_rows(1) as u64);
     assert_eq!(raw::size(Size::LineBytes), room_for_lines(1) as u64);
     assert_eq!((raw::size(Size::MostRows), raw::size(Size::MostLines)), (256, 65_536));
-    assert_eq!(raw::size(Size::LongestMessage), day_w()[5].len() as u64);
+    assert_eq!(raw::size(Size::LongestMessage), raw::size(Size::PlsC));
     assert_eq!(raw::size(Size::Record), Record::default().bytes().len() as u64);
 }
 
@@ -232,20 +247,72 @@ fn words_are_those_of_the_linked_library() {
 #[test]
 fn lengths_are_those_of_the_linked_library() {
     let sale = sale("1", 1, 1, b"@   ");
-    let traded = trade(b'T', 0, b'Q', sale, 0);
+    let traded = trade(b'T', 0, b'X', sale, 0);
+    let cancelled = Record { letter: b'X', ..traded };
+    let corrected = Record { letter: b'C', new: sale, ..traded };
     let event = Record { letter: b'S', event: b'O', ..Record::default() };
     let summary = Record { letter: b'J', symbol: ABCD, class: b'Q', ..Record::default() };
-    for (record, size) in [
-        (event, Size::MessageS),
-        (traded, Size::MessageT),
-        (Record { letter: b'X', ..traded }, Size::MessageX),
-        (Record { letter: b'C', new: sale, ..traded }, Size::MessageC),
-        (summary, Size::MessageJ),
+    for (edition, record, size) in [
+        (NlsPlus, event, Size::MessageS),
+        (NlsPlus, traded, Size::MessageT),
+        (NlsPlus, cancelled, Size::MessageX),
+        (NlsPlus, corrected, Size::MessageC),
+        (NlsPlus, summary, Size::MessageJ),
+        (Pls, event, Size::PlsS),
+        (Pls, traded, Size::PlsT),
+        (Pls, cancelled, Size::PlsX),
+        (Pls, corrected, Size::PlsC),
     ] {
-        let length = written(record).len();
-        assert_eq!(Record::read(&written(record)), Ok(record));
-        assert_eq!(raw::size(size), length as u64, "{size:?}");
-        assert_eq!(record.write(&mut vec![0; length - 1]), Err(WriteError::NoSpace));
+        let message = written_by(edition, record);
+        assert_eq!(Record::read(edition, &message), Ok(record));
+        assert_eq!(raw::size(size), message.len() as u64, "{size:?}");
+        let short = record.write(edition, &mut vec![0; message.len() - 1]);
+        assert_eq!(short, Err(WriteError::NoSpace));
+    }
+    assert_eq!(summary.write(Pls, &mut [0; 99]), Err(WriteError::FieldBroken));
+}
+
+// A day of PLS: NLS Plus's messages are refused, leading zeros are read, and nothing is reported.
+#[test]
+fn a_day_of_pls() {
+    let (mut rows, mut lines) = (vec![0; room_for_rows(1)], vec![0; room_for_lines(4)]);
+    let mut book = Book::start(Pls, &mut rows, &mut lines);
+    book.list(ABCD, 250_000).unwrap();
+    assert_eq!(book.deliver(1, &day_w()[0]), Err(DeliverError::NoType));
+    assert_eq!(book.deliver(2, b"       0SO"), Ok(()));
+    let traded = b"34200000TXABCD    Q1             251000      100@   ";
+    let cancel = b"34200001XXABCD    Q1         0000251000000000100@   ";
+    assert_eq!(book.deliver(3, traded), Ok(()));
+    let row = book.row(ABCD).unwrap();
+    assert_eq!((row.last, row.net, row.volume), (Some(251_000), Some(1_000), 100));
+    assert_eq!((row.count, row.agrees, row.reported), (1, false, None));
+    assert_eq!(book.deliver(4, cancel), Ok(()));
+    let counters = Counters { edition: Pls, wanted: 5, phase: 1, rows: 1, lines: 1, taken: 3 };
+    assert_eq!(book.counters(), counters);
+    let record = Record::read(Pls, cancel).unwrap();
+    assert_eq!(written_by(Pls, record), b"34200001XXABCD    Q1             251000      100@   ");
+}
+
+#[test]
+fn numbers_that_are_no_editions() {
+    assert_eq!(Edition::ALL.map(Edition::number), [0, 1]);
+    for strange in [2, 256, 1 << 32, u64::MAX] {
+        assert_eq!(Edition::of(strange), None);
+        let mut counters = [9; 6];
+        raw::start(&mut counters, strange);
+        assert_eq!(counters, [1, 0, 0, 0, 0, strange]);
+        let (mut rows, mut lines, mut figures) = ([7; 30], [8; 40], [3; 15]);
+        assert_eq!(raw::list(&mut counters, &mut rows, &lines, &ABCD, 1), 17);
+        assert_eq!(raw::deliver(&mut counters, &mut rows, &mut lines, 1, &day_w()[0]), 17);
+        assert_eq!(raw::row(&counters, &rows, &lines, &ABCD, &mut figures), 17);
+        assert_eq!((rows, lines, figures), ([7; 30], [8; 40], [0; 15]));
+        assert_eq!(counters, [1, 0, 0, 0, 0, strange]);
+        let mut record = [5; 80];
+        assert_eq!(raw::read(strange, &day_w()[0], &mut record), 4);
+        assert_eq!(record, [0; 80]);
+        let event = Record { letter: b'S', event: b'O', ..Record::default() };
+        let mut out = [5; 10];
+        assert_eq!((raw::write(strange, &event.bytes(), &mut out), out), (5, [5; 10]));
     }
 }
 

@@ -1,7 +1,7 @@
 //! Each answer of the table, and which of two goes first.
 
 use crate::desk::*;
-use plain::{Answer, Counters};
+use plain::{fresh, Answer, Counters, Edition};
 
 const NAMES: [Answer; 19] = [
     Answer::Done,
@@ -302,7 +302,8 @@ fn all_say_17(counters: Counters) {
 
 #[test]
 fn answer_17_just_past_each_bound() {
-    let sound = Counters { wanted: 9, phase: 6, rows: 2, lines: 3, taken: 8 };
+    let start = fresh(Edition::NlsPlus);
+    let sound = Counters { wanted: 9, phase: 6, rows: 2, lines: 3, taken: 8, ..start };
     let desk = Desk { counters: sound, ..Desk::new(2, 3) };
     assert_eq!(desk.asked(*b"ABCD    "), 7);
     for wanted in [0, 4_294_967_297, u64::MAX] {
@@ -320,7 +321,8 @@ fn answer_17_just_past_each_bound() {
 fn sound_at_each_bound() {
     for (wanted, taken) in [(1, 0), (2, 0), (2, 1), (4_294_967_296, 4_294_967_295)] {
         for phase in 0..=6 {
-            let counters = Counters { wanted, phase, rows: 2, lines: 3, taken };
+            let counters =
+                Counters { wanted, phase, rows: 2, lines: 3, taken, ..fresh(Edition::Pls) };
             let desk = Desk { counters, ..Desk::new(2, 3) };
             assert_eq!(desk.asked(*b"ABCD    "), 7);
         }

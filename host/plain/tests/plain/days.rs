@@ -1,7 +1,7 @@
 //! The fourteen days to try by hand, and the three wrong books.
 
 use crate::desk::*;
-use plain::{read, Answer, Row};
+use plain::{Answer, Row};
 
 const Q1: Trade = TRADE;
 const Q2: Trade =

@@ -1,6 +1,6 @@
 //! Messages built byte by byte, and a book with its lent room.
 
-use plain::{deliver, fresh, list, row, Answer, Counters, Row};
+use plain::{deliver, fresh, list, row, Answer, Counters, Edition, Record, Row};
 
 pub const ROW: usize = 30;
 pub const LINE: usize = 40;
@@ -102,6 +102,16 @@ pub fn summary(symbol: &str, high: u32, low: u32, close: u32, consolidated: u64)
     out
 }
 
+/// Reads a message of NLS Plus.
+pub fn read(message: &[u8]) -> (Answer, Record) {
+    plain::read(Edition::NlsPlus, message)
+}
+
+/// Writes a record as NLS Plus has it.
+pub fn write(record: &Record, out: &mut [u8]) -> Answer {
+    plain::write(Edition::NlsPlus, record, out)
+}
+
 /// A book together with what it was lent.
 #[derive(Clone, PartialEq, Debug)]
 pub struct Desk {
@@ -111,9 +121,15 @@ pub struct Desk {
 }
 
 impl Desk {
-    /// A fresh book over room that is full of old bytes.
+    /// A fresh book of NLS Plus over room that is full of old bytes.
     pub fn new(rows: usize, lines: usize) -> Desk {
-        Desk { counters: fresh(), rows: vec![0xA5; rows * ROW], lines: vec![0x5A; lines * LINE] }
+        Desk::of(Edition::NlsPlus, rows, lines)
+    }
+
+    /// A fresh book of an edition.
+    pub fn of(edition: Edition, rows: usize, lines: usize) -> Desk {
+        let (rows, lines) = (vec![0xA5; rows * ROW], vec![0x5A; lines * LINE]);
+        Desk { counters: fresh(edition), rows, lines }
     }
 
     /// ABCD listed at 250000 and event O taken as number 1.
@@ -153,6 +169,7 @@ impl Desk {
             assert_eq!(self.counters.wanted, expected.counters.wanted + 1);
             assert_eq!(self.counters.taken, expected.counters.taken + 1);
             assert_eq!(self.counters.rows, expected.counters.rows);
+            assert_eq!(self.counters.edition, expected.counters.edition);
         }
         answer
     }

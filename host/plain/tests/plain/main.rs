@@ -3,5 +3,6 @@ mod answers;
 mod days;
 mod desk;
 mod messages;
+mod pls;
 mod rows;
 mod slabs;

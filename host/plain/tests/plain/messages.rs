@@ -1,7 +1,7 @@
 //! The reader and the writer: layouts, bounds of each field, round trips.
 
 use crate::desk::*;
-use plain::{read, write, Answer, Record, Sale};
+use plain::{Answer, Record, Sale};
 
 const SHEET: [&[u8]; 4] = [b"@CNR", b" FO5647", b" LZTU", b" ABDKSXYHIVW"];
 

@@ -2,7 +2,7 @@
 
 use crate::days::{w, w_after};
 use crate::desk::*;
-use plain::fresh;
+use plain::{fresh, Edition};
 
 const ROW_NEW: &[u8; 30] = b"ABCD    \x00\x03\xd0\x90\0\0\0\0\0\0\0\0\0\0\0\0\0\0\0\0\0\0";
 const Q1: &[u8; 39] =
@@ -35,8 +35,11 @@ fn rows(reported: Option<u64>) -> Vec<u8> {
 
 #[test]
 fn a_fresh_book() {
-    let c = fresh();
-    assert_eq!((c.wanted, c.phase, c.rows, c.lines, c.taken), (1, 0, 0, 0, 0));
+    for edition in Edition::ALL {
+        let c = fresh(edition);
+        assert_eq!((c.wanted, c.phase, c.rows, c.lines, c.taken), (1, 0, 0, 0, 0));
+        assert_eq!(c.edition, edition);
+    }
 }
 
 #[test]
