@@ -18,13 +18,14 @@
 extern "C" {
 #endif
 
-/* Answers: the numbers of the table in document 01. 17 goes first; otherwise the lowest from 1 up that applies is given. */
+/* Answers, by their numbers in docs/FORMAT.md, which has the layouts and all rules too. 17 goes first; otherwise the lowest from 1 up
+ * that applies is given. */
 enum sorundappa_answer {
     SORUNDAPPA_DONE = 0,
     SORUNDAPPA_NUMBER_OUTSIDE = 1,  /* the number is 0 or above 4,294,967,295 */
     SORUNDAPPA_NUMBER_BELOW = 2,    /* the number is below the wanted one */
     SORUNDAPPA_NUMBER_ABOVE = 3,    /* the number is above the wanted one */
-    SORUNDAPPA_NO_TYPE = 4,         /* no such type, or not its length */
+    SORUNDAPPA_NO_TYPE = 4,         /* no such type in the edition, or not its length */
     SORUNDAPPA_FIELD_BROKEN = 5,    /* a field breaks its rule */
     SORUNDAPPA_NOT_DUE = 6,         /* the event or message is not due in this phase */
     SORUNDAPPA_NOT_LISTED = 7,      /* the symbol is not on the sheet */
@@ -37,7 +38,7 @@ enum sorundappa_answer {
     SORUNDAPPA_LISTING_LATE = 14,   /* listing: a number was used up already */
     SORUNDAPPA_LISTED_ALREADY = 15, /* listing: the symbol is on the sheet already */
     SORUNDAPPA_ROWS_FULL = 16,      /* listing: every row is used */
-    SORUNDAPPA_UNSOUND = 17,        /* the book is unsound */
+    SORUNDAPPA_UNSOUND = 17,        /* the book is unsound, or the words are no book's */
     SORUNDAPPA_NO_SPACE = 18        /* writer: the lent space is shorter than the message */
 };
 
@@ -50,8 +51,7 @@ enum sorundappa_edition {
 /* The words of a book's counters. A phase is 0 before any event was taken, then 1 to 6 for O S Q M E C. The edition stays what the book was
  * started with. The book is unsound, answer 17, if the wanted number is 0 or above 4,294,967,296, the phase above 6, more rows or lines are
  * used than the rooms that are lent hold (whole cells only, and at most 256 and 65,536), or as many messages are taken as the wanted number
- * or more. Words with a number in the edition's place that is no edition's are no book's: every call on them answers 17 too, and nothing
- * changes. */
+ * or more. Where the last word is neither 0 nor 1, the words are no book's: every call on them answers 17 too, and nothing changes. */
 enum sorundappa_counter {
     SORUNDAPPA_WANTED,
     SORUNDAPPA_PHASE,
@@ -159,9 +159,9 @@ uint8_t sorundappa_row(const uint64_t counters[SORUNDAPPA_COUNTERS], const uint8
 uint8_t sorundappa_read(uint64_t edition, const uint8_t *message, size_t message_bytes, uint8_t record[SORUNDAPPA_RECORD]);
 
 /* Writes a record's message by an edition to the front of out. Answers 0, and the bytes past the message stay as they were; or 5 or 18,
- * and all of out stays as it was. Where both apply it is 5. A number that is no edition's gets 5. PLS reads numbers with leading zeros
- * and writes them without: the record of a message that was read always comes back, its bytes only where they are in the form that is
- * written. */
+ * and all of out stays as it was. Where both apply it is 5. A number that is no edition's gets 5. By PLS the
+ * record of a message that was read always comes back; its bytes do where they are in the form that is written, which has no digit more
+ * than the number has, or, of a price, than four. */
 uint8_t sorundappa_write(uint64_t edition, const uint8_t record[SORUNDAPPA_RECORD], uint8_t *out, size_t out_bytes);
 
 /* One of the seventeen sizes above, as the linked library has it; 0 for any other which. */
