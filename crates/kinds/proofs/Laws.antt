@@ -1,10 +1,13 @@
 -- What holds of every type, computed over the list of all.
 -- Assumes nothing.
-use mathlib.Core.Path.{_≡_, refl, sym}
+use mathlib.Core.Path.{_≡_, refl, sym, ap, subst, _∙_}
 use mathlib.Core.Bool.{Bool, true, false, not, _&&_, _||_, true≢false, and-eq-true-iff}
 use mathlib.Core.List.{List, [], _∷_}
 use Prim.Native.Nat.{ℕ, zero, suc}
 use lib.ListN.{getD}
+use mathlib.Core.Logic.{_⊎_, inl, inr}
+use denote.Enum.Declared.{tagOf}
+use Rattle.kinds.proofs.Kind.{the-type}
 use Rattle.kinds.specs.declared.Kind.{Kind}
 use Rattle.kinds.specs.declared.Kind.the-variants.{Event, Trade, Cancel, Correction, Summary, Other}
 use Rattle.kinds.specs.Kinds.{allKinds, isEvent, isSummary, namesOld, makesNew, setsVolume}
@@ -64,3 +67,20 @@ module _ (k : Kind) where
   -- a summary sets the volume
   pub summary-sets : isSummary k ≡ true → setsVolume k ≡ true
   summary-sets = follows (isSummary k) (setsVolume k) (every (λ k. not (isSummary k) || setsVolume k) refl refl k)
+
+-- ---- a type of which a `match` knows that it is one of two
+
+-- the compiler numbers the types in the order of the list
+placed : (k : Kind) → getD allKinds (tagOf the-type k) Other ≡ k
+placed Event = refl
+placed Trade = refl
+placed Cancel = refl
+placed Correction = refl
+placed Summary = refl
+placed Other = refl
+
+-- what holds of the types at two places holds of a type that stands at one of them
+pub one-of-two : (P : Kind → Type 0) (i j : ℕ) (k : Kind) → (tagOf the-type k ≡ i) ⊎ (tagOf the-type k ≡ j) → P (getD allKinds i Other)
+    → P (getD allKinds j Other) → P k
+one-of-two P i j k (inl e) p q = subst P (ap (λ (n : ℕ). getD allKinds n Other) (sym e) ∙ placed k) p
+one-of-two P i j k (inr e) p q = subst P (ap (λ (n : ℕ). getD allKinds n Other) (sym e) ∙ placed k) q

@@ -62,8 +62,7 @@ pub fn length_of(kind: Kind) -> usize
 {
     match kind {
         Kind::Event => S_LENGTH,
-        Kind::Trade => T_LENGTH,
-        Kind::Cancel => T_LENGTH,
+        Kind::Trade | Kind::Cancel => T_LENGTH,
         Kind::Correction => C_LENGTH,
         Kind::Summary => J_LENGTH,
         Kind::Other => 0,
@@ -120,8 +119,7 @@ pub fn unpack(b: &mut [u8; RECORD], m: &[u8], kind: Kind)
     *b = [0u8; RECORD];
     match kind {
         Kind::Event => unpack_s(b, m),
-        Kind::Trade => unpack_t(b, m),
-        Kind::Cancel => unpack_t(b, m),
+        Kind::Trade | Kind::Cancel => unpack_t(b, m),
         Kind::Correction => unpack_c(b, m),
         Kind::Summary => unpack_j(b, m),
         Kind::Other => {}
@@ -171,8 +169,7 @@ pub fn store(out: &mut [u8], b: &[u8], k: Kind)
 {
     match k {
         Kind::Event => put_s(out, b),
-        Kind::Trade => put_t(out, b),
-        Kind::Cancel => put_t(out, b),
+        Kind::Trade | Kind::Cancel => put_t(out, b),
         Kind::Correction => put_c(out, b),
         Kind::Summary => put_j(out, b),
         Kind::Other => {}

@@ -98,11 +98,9 @@ pub fn length_of(kind: Kind) -> usize
 {
     match kind {
         Kind::Event => S_LENGTH,
-        Kind::Trade => T_LENGTH,
-        Kind::Cancel => T_LENGTH,
+        Kind::Trade | Kind::Cancel => T_LENGTH,
         Kind::Correction => C_LENGTH,
-        Kind::Summary => 0,
-        Kind::Other => 0,
+        Kind::Summary | Kind::Other => 0,
     }
 }
 
@@ -176,11 +174,9 @@ fn unpack_whole(b: &mut [u8; RECORD], m: &[u8], kind: Kind) -> bool
     *b = [0u8; RECORD];
     match kind {
         Kind::Event => unpack_s(b, m),
-        Kind::Trade => unpack_t(b, m),
-        Kind::Cancel => unpack_t(b, m),
+        Kind::Trade | Kind::Cancel => unpack_t(b, m),
         Kind::Correction => unpack_c(b, m),
-        Kind::Summary => true,
-        Kind::Other => true,
+        Kind::Summary | Kind::Other => true,
     }
 }
 
@@ -263,11 +259,9 @@ fn store_whole(out: &mut [u8], b: &[u8], k: Kind)
 {
     match k {
         Kind::Event => put_s(out, b),
-        Kind::Trade => put_t(out, b),
-        Kind::Cancel => put_t(out, b),
+        Kind::Trade | Kind::Cancel => put_t(out, b),
         Kind::Correction => put_c(out, b),
-        Kind::Summary => {}
-        Kind::Other => {}
+        Kind::Summary | Kind::Other => {}
     }
 }
 

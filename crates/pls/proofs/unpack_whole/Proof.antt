@@ -1,13 +1,17 @@
 -- `pls::unpack_whole` meets its contract.
 -- Assumes nothing.
-use mathlib.Core.Path.{refl, ap, sym, _∙_}
-use lib.ListN.{length}
+use mathlib.Core.Path.{_≡_, refl, ap, sym, _∙_}
+use mathlib.Core.Bool.{true}
+use Prim.Native.Nat.{ℕ, _≤_}
+use lib.ListN.{length, replicate}
 use Rattle.kinds.specs.declared.Kind.{Kind}
+use Rattle.kinds.proofs.Laws.{one-of-two}
 use Rattle.layout.specs.Tables.{readyBy}
 use Rattle.records.specs.Held.{readBy, filledIn, readyIn}
-use Rattle.records.specs.Packed.{recordBytes}
+use Rattle.records.specs.Packed.{recordLength, recordBytes}
 use Rattle.records.proofs.Stores.{no-bytes}
 use Rattle.pls.specs.Layouts.{layoutS, layoutT, layoutC, layoutOf}
+use Rattle.pls.specs.Moved.{lengthOf}
 use Rattle.pls.proofs.Laid.{takes}
 use borrow.Author.Needs.{needs}
 use Rattle.pls.proofs.unpack_whole.Statement.{statement}
@@ -23,41 +27,23 @@ unpack-s-requires c κs =
     let s = told .before .before .before .before in
     (refl, takes (length (s .args .m .now)) (told .enum-told .given .1) (s .pre))
 
-enum-told-2 : tie.Need-enum-told-2
-enum-told-2 c = search needs
-
 unpack-t-requires : tie.Need-unpack-t-requires
 unfolding layoutT
 unpack-t-requires c κs =
     let told = c .before in
-    let s = told .before .before .before .before in
-    (refl, takes (length (s .args .m .now)) (told .enum-told2 .given .1) (s .pre))
+    let s = told .before .before .before in
+    let n = length (s .args .m .now) in
+    (refl, one-of-two (λ (k : Kind). lengthOf k ≤ n → 52 ≤ n) 1 2 (s .args .kind) (told .match .keys2) (λ h. h) (λ h. h) (s .pre))
 
-enum-told-3 : tie.Need-enum-told-3
-enum-told-3 c = search needs
-
-unpack-t-requires-2 : tie.Need-unpack-t-requires-2
-unfolding layoutT
-unpack-t-requires-2 c κs =
-    let told = c .before in
-    let s = told .before .before .before .before in
-    (refl, takes (length (s .args .m .now)) (told .enum-told3 .given .1) (s .pre))
-
-enum-told-4 : tie.Need-enum-told-4
-enum-told-4 c = search needs
+enum-told-2 : tie.Need-enum-told-2
+enum-told-2 c = search needs
 
 unpack-c-requires : tie.Need-unpack-c-requires
 unfolding layoutC
 unpack-c-requires c κs =
     let told = c .before in
     let s = told .before .before .before .before in
-    (refl, takes (length (s .args .m .now)) (told .enum-told4 .given .1) (s .pre))
-
-enum-told-5 : tie.Need-enum-told-5
-enum-told-5 c = search needs
-
-enum-told-6 : tie.Need-enum-told-6
-enum-told-6 c = search needs
+    (refl, takes (length (s .args .m .now)) (told .enum-told2 .given .1) (s .pre))
 
 returns : tie.Need-returns
 returns c =
@@ -69,47 +55,33 @@ returns c =
     )
 
 returns-2 : tie.Need-returns-2
+unfolding readBy readyBy layoutT
 returns-2 c =
     let told = c .before .before in
-    let m = told .before .before .before .before .args .m .now in
-    let e = told .enum-told2 .given .1 in (
-      c .unpack-t .ensures .0 ∙ sym (ap (λ (k : Kind). recordBytes (filledIn (layoutOf k) m)) e),
-      c .unpack-t .ensures .1 ∙ sym (ap (λ (k : Kind). readyIn (layoutOf k) m) e),
+    let a = told .before .before .before .args in
+    let m = a .m .now in
+    let keys = told .match .keys2 in (
+      c .unpack-t .ensures .0 ∙ ap recordBytes (one-of-two (λ (k : Kind). readBy (layoutT 84) m ≡ filledIn (layoutOf k) m) 1 2 (a .kind) keys refl refl),
+      c .unpack-t .ensures .1 ∙ one-of-two (λ (k : Kind). readyBy (layoutT 84) m ≡ readyIn (layoutOf k) m) 1 2 (a .kind) keys refl refl,
     )
 
 returns-3 : tie.Need-returns-3
-unfolding readBy readyBy layoutT
 returns-3 c =
     let told = c .before .before in
     let m = told .before .before .before .before .args .m .now in
-    let e = told .enum-told3 .given .1 in (
-      c .unpack-t2 .ensures .0 ∙ sym (ap (λ (k : Kind). recordBytes (filledIn (layoutOf k) m)) e),
-      c .unpack-t2 .ensures .1 ∙ sym (ap (λ (k : Kind). readyIn (layoutOf k) m) e),
-    )
-
-returns-4 : tie.Need-returns-4
-returns-4 c =
-    let told = c .before .before in
-    let m = told .before .before .before .before .args .m .now in
-    let e = told .enum-told4 .given .1 in (
+    let e = told .enum-told2 .given .1 in (
       c .unpack-c .ensures .0 ∙ sym (ap (λ (k : Kind). recordBytes (filledIn (layoutOf k) m)) e),
       c .unpack-c .ensures .1 ∙ sym (ap (λ (k : Kind). readyIn (layoutOf k) m) e),
     )
 
-returns-5 : tie.Need-returns-5
-returns-5 c =
-    let m = c .before .before .before .before .args .m .now in
-    let e = c .enum-told5 .given .1 in (
-      sym no-bytes ∙ sym (ap (λ (k : Kind). recordBytes (filledIn (layoutOf k) m)) e),
-      sym (ap (λ (k : Kind). readyIn (layoutOf k) m) e),
-    )
-
-returns-6 : tie.Need-returns-6
-returns-6 c =
-    let m = c .before .before .before .before .args .m .now in
-    let e = c .enum-told6 .given .1 in (
-      sym no-bytes ∙ sym (ap (λ (k : Kind). recordBytes (filledIn (layoutOf k) m)) e),
-      sym (ap (λ (k : Kind). readyIn (layoutOf k) m) e),
+returns-4 : tie.Need-returns-4
+returns-4 c =
+    let a = c .before .before .before .args in
+    let m = a .m .now in
+    let zeros = replicate {A = ℕ} recordLength 0 in
+    let keys = c .match .keys4 in (
+      one-of-two (λ (k : Kind). zeros ≡ recordBytes (filledIn (layoutOf k) m)) 4 5 (a .kind) keys (sym no-bytes) (sym no-bytes),
+      one-of-two (λ (k : Kind). true ≡ readyIn (layoutOf k) m) 4 5 (a .kind) keys refl refl,
     )
 
 pub unpack-whole-spec : {M : Type 1} → statement M
@@ -118,17 +90,10 @@ unpack-whole-spec =
     (tie.spec
     enum-told
     unpack-s-requires
-    enum-told-2
     unpack-t-requires
-    enum-told-3
-    unpack-t-requires-2
-    enum-told-4
+    enum-told-2
     unpack-c-requires
-    enum-told-5
-    enum-told-6
     returns
     returns-2
     returns-3
-    returns-4
-    returns-5
-    returns-6)
+    returns-4)
