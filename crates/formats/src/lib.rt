@@ -1,5 +1,5 @@
-// The layouts at work, by the edition: each function here asks the edition once, and calls `packing` for NLS Plus or
-// `pls` for PLS.
+// The layouts at work, by the edition: each function here asks the edition once, and calls `packing` for NLS Plus or,
+// for PLS, `pls`, `plsread` and `plswrite`.
 use editions::Edition;
 use kinds::Kind;
 use records::RECORD;
@@ -40,7 +40,7 @@ pub fn unpack(edition: Edition, b: &mut [u8; RECORD], m: &[u8], kind: Kind) -> b
             packing::unpack(b, m, kind);
             true
         }
-        Edition::Pls => pls::unpack(b, m, kind),
+        Edition::Pls => plsread::unpack(b, m, kind),
     }
 }
 
@@ -51,6 +51,6 @@ pub fn store(edition: Edition, out: &mut [u8], b: &[u8], kind: Kind)
 {
     match edition {
         Edition::NlsPlus => packing::store(out, b, kind),
-        Edition::Pls => pls::store(out, b, kind),
+        Edition::Pls => plswrite::store(out, b, kind),
     }
 }

@@ -1,6 +1,4 @@
 pub mod ByHand
 pub mod Good
-pub mod Spelt
-pub mod Shown
-pub mod Laid
+pub mod Laws
 pub mod Promise

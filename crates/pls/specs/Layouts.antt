@@ -13,6 +13,7 @@ use Rattle.layout.specs.Values.{letter, time, event, centre, symbol, class, con
 use Rattle.layout.specs.Values.{newSize, newCondition}
 use Rattle.layout.specs.Forms.{byte, numeral, chars}
 use Rattle.layout.specs.Tables.{Item, at, Layout, the}
+use Rattle.records.specs.Held.{sizeIn}
 use Rattle.rules.specs.Rules as Rules
 
 -- where every layout has its letter
@@ -77,3 +78,7 @@ layoutOf Other = none
 -- the lengths as document 02 prints them: S, T, X, C
 abbrev pub printedLengths : List ℕ
 printedLengths = 10 ∷ 52 ∷ 52 ∷ 85 ∷ []
+
+-- the length of a type's messages; 0 of what is no type
+abbrev pub lengthOf : Kind → ℕ
+lengthOf k = sizeIn (layoutOf k)

@@ -3,8 +3,7 @@
 use mathlib.Core.Path.{_≡_, refl, ap, sym}
 use Rattle.kinds.specs.declared.Kind.{Kind}
 use Rattle.kinds.proofs.Laws.{one-of-two}
-use Rattle.pls.specs.Layouts.{layoutS, layoutT, layoutC}
-use Rattle.pls.specs.Moved.{lengthOf}
+use Rattle.pls.specs.Layouts.{layoutS, layoutT, layoutC, lengthOf}
 use borrow.Author.Needs.{needs}
 use Rattle.pls.proofs.length_of.Statement.{statement}
 use Rattle.pls.proofs.length_of.Tie as tie

@@ -1,0 +1,3 @@
+pub mod Spelt
+pub mod Laid
+pub mod Promise
