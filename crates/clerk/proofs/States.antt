@@ -23,7 +23,7 @@ use Rattle.show.specs.Showing.{nothingShown}
 use Rattle.book.specs.State.{State, withCounters, Arrival, editionOf, wantedIn, rowsIn, linesIn, sheetOf, soundIn}
 use Rattle.book.specs.Calls.{listTable, listAnswer, listed, delivered, shown}
 use Rattle.book.proofs.Demand1.{refused-keeps}
-use Rattle.book.proofs.Touches.{touches-only}
+use Rattle.upheld.proofs.Touches.{touches-only}
 use Rattle.clerk.specs.Steps.{Book, bookOf, wantedDone, next, listing}
 use Rattle.clerk.specs.Clerk.{isIn, symbolsIn, sheetFrom, clerkSheet, Taken, tradesOf, takenOf, rowOf, shownBy, bookBy, clerkBook}
 use Rattle.clerk.specs.Arrivals.{Largest, numbers, Copies, upto}

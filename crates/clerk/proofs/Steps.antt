@@ -47,7 +47,7 @@ use Rattle.book.specs.State.{State, Arrival, editionOf, wantedIn, rowsIn, sheet
 use Rattle.book.specs.Calls.{listTable, listAnswer, withListing, listed, readingIn, messageGiven, spent, delivered}
 use Rattle.book.specs.Calls as Calls
 use Rattle.book.proofs.Demand1.{refused-keeps, answer-content}
-use Rattle.book.proofs.Touches.{touches-only, made-fits, corrected-fits}
+use Rattle.upheld.proofs.Touches.{touches-only, made-fits, corrected-fits}
 use Rattle.clerk.specs.Messages.{eventIn, summaryIn, setsIn, namesIn, makesIn}
 use Rattle.clerk.specs.Steps.{Book, bookOf, linesFor, keeping, summing, rowsFor, takenInto, usingUp, content}
 use Rattle.clerk.specs.Steps.{wantedDone, next, listing}

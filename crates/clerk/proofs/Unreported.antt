@@ -13,7 +13,7 @@ use Rattle.show.specs.declared.RowShown.{RowShown}
 use Rattle.book.specs.State.{State, Arrival, editionOf, sheetOf, soundIn}
 use Rattle.book.specs.Calls.{delivered, rowTable, rowAnswer, shown}
 use Rattle.book.proofs.Demand1.{row-told, refused-keeps}
-use Rattle.book.proofs.EditionStays.{row-keeps-reported, sheet-stays}
+use Rattle.upheld.proofs.EditionStays.{row-keeps-reported, sheet-stays}
 use Rattle.clerk.proofs.Steps.{deliver-sound}
 
 module _ (s : State) (a : Arrival) (none : reports (editionOf s) ≡ false) where

@@ -26,7 +26,7 @@ use Rattle.book.specs.declared.Shown.{Shown}
 use Rattle.book.specs.State.{State, rowsIn, sheetOf, linesIn, soundIn}
 use Rattle.book.specs.Calls.{rowTable, rowAnswer, shown}
 use Rattle.book.proofs.Demand1.{refused-keeps, row-told}
-use Rattle.book.proofs.Touches.{RowReads, row-reads}
+use Rattle.upheld.proofs.Touches.{RowReads, row-reads}
 use Rattle.clerk.specs.Clerk.{isIn, symbolsIn, Taken, tradesOf, rowOf, shownBy}
 use Rattle.clerk.specs.Claims.{NoRepeat}
 use Rattle.clerk.proofs.Lines.{or-false-left, or-false-right, same-refl, same-comm, up, first-hit, first-miss, listed-is-in}

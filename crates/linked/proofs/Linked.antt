@@ -32,11 +32,11 @@ use Rattle.clerk.proofs.States.{Stands, steps-from, shown-listed, shown-missing
 use Rattle.linked.specs.BookWords.{bookWords, ComesTo}
 use Rattle.cabinet.specs.Crossing.{Held, holding, heldOf, Crossed, listedFrom, deliveredFrom, shownFrom}
 use Rattle.cabinet.proofs.Calls.{listed-book, delivered-book, shown-book}
-use Rattle.cabinet.proofs.Given.{StartLfts, StartArgs, StartExit, startGiven, startLeft, ListLfts, ListArgs, ListExit, listFrom, listGiven}
-use Rattle.cabinet.proofs.Given.{listLeft}
-use Rattle.cabinet.proofs.Given.{DeliverLfts, DeliverArgs, DeliverExit, deliverFrom, deliverGiven, deliverLeft}
-use Rattle.cabinet.proofs.Given.{RowLfts, RowArgs, RowExit, rowFrom, rowAsked, rowLeft}
-use Rattle.cabinet.proofs.Refused.{row-cleared}
+use Rattle.called.proofs.Given.{StartLfts, StartArgs, StartExit, startGiven, startLeft, ListLfts, ListArgs, ListExit, listFrom, listGiven}
+use Rattle.called.proofs.Given.{listLeft}
+use Rattle.called.proofs.Given.{DeliverLfts, DeliverArgs, DeliverExit, deliverFrom, deliverGiven, deliverLeft}
+use Rattle.called.proofs.Given.{RowLfts, RowArgs, RowExit, rowFrom, rowAsked, rowLeft}
+use Rattle.called.proofs.Refused.{row-cleared}
 use Rattle.cabinet.proofs.sorundappa_start.Reads as start-reads
 use Rattle.cabinet.proofs.sorundappa_list.Reads as list-reads
 use Rattle.cabinet.proofs.sorundappa_deliver.Reads as deliver-reads

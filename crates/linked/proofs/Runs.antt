@@ -15,15 +15,15 @@ use Rattle.counters.specs.Counting.{freshCounters}
 use Rattle.book.specs.State.{State, lent, Arrival}
 use Rattle.book.specs.Calls.{listed, delivered}
 use Rattle.book.proofs.Promise.{someLfts, slice}
-use Rattle.book.proofs.Touches.{touches-only}
+use Rattle.upheld.proofs.Touches.{touches-only}
 use Rattle.words.specs.Words.{counterCount, counterWords, rowCount, rowWords}
 use Rattle.words.proofs.Again.{fresh-known}
 use Rattle.clerk.specs.States.{Asked, toList, toDeliver, AskedFit}
 use Rattle.clerk.proofs.Lent.{deliver-bytes}
 use Rattle.cabinet.specs.Crossing.{Held, holding, heldOf, crossed, shownFrom}
 use Rattle.cabinet.proofs.Calls.{listed-book, delivered-book}
-use Rattle.cabinet.proofs.Given.{ListLfts, ListArgs, ListExit, DeliverLfts, DeliverArgs, DeliverExit, RowLfts, RowArgs, RowExit}
-use Rattle.cabinet.proofs.Given.{rowFrom, rowAsked}
+use Rattle.called.proofs.Given.{ListLfts, ListArgs, ListExit, DeliverLfts, DeliverArgs, DeliverExit, RowLfts, RowArgs, RowExit}
+use Rattle.called.proofs.Given.{rowFrom, rowAsked}
 use Rattle.cabinet.proofs.sorundappa_start as start
 use Rattle.cabinet.proofs.sorundappa_list as list
 use Rattle.cabinet.proofs.sorundappa_deliver as deliver

@@ -21,7 +21,7 @@ use Rattle.counters.specs.Counting.{lastNumber, freshCounters}
 use Rattle.print.specs.Texts.{headerText, rowText, closingText}
 use Rattle.book.specs.State.{State, withCounters, rowsIn, linesIn}
 use Rattle.book.specs.Calls.{listed, delivered}
-use Rattle.book.proofs.Touches.{touches-only}
+use Rattle.upheld.proofs.Touches.{touches-only}
 use Rattle.tape.specs.Entries.{Entry, Lists, Delivers, entryBytes, EntryFits, EntriesFit, tapeOf, Tape, endOf}
 use Rattle.tape.specs.Playing.{acted, actedAll, Play, played, joined}
 use Rattle.tape.proofs.Tapes.{play-split, bytes-behind, bytes-take}

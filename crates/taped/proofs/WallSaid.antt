@@ -36,7 +36,7 @@ use Rattle.take.specs.Taking.{indexOf}
 use Rattle.table.specs.Table.{isFound, numberTable}
 use Rattle.book.specs.State.{State, withCounters, Arrival, editionOf, wantedIn, rowsIn, linesIn, sheetOf, soundIn}
 use Rattle.book.specs.Calls.{listTable, listAnswer, listed, delivered, rowTable, rowAnswer, shown}
-use Rattle.book.proofs.Touches.{touches-only}
+use Rattle.upheld.proofs.Touches.{touches-only}
 use Rattle.clerk.specs.Steps.{Book, bookOf, keeping, summing, changeFound, inItsRow, rowsFor, takenInto, usingUp, content, wantedDone}
 use Rattle.clerk.specs.Steps.{next, listAnswerBy, listing}
 use Rattle.clerk.specs.Clerk.{isIn, symbolsIn, sheetFrom}

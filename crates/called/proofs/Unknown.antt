@@ -17,25 +17,25 @@ use Rattle.records.proofs.Stores.{no-bytes}
 use Rattle.book.specs.declared.Shown.{Shown}
 use Rattle.book.specs.State.{State, Outcome}
 use Rattle.book.specs.Calls.{listed, delivered}
-use Rattle.book.proofs.EditionStays as Inside
+use Rattle.upheld.proofs.EditionStays as Inside
 use Rattle.words.specs.declared.Meant.{Meant}
 use Rattle.words.specs.declared.Meant.the-variants.{Book, NoBook}
 use Rattle.words.specs.Words.{counterWords, editionAt, countersOf, rowCount, rowWords}
 use Rattle.words.proofs.Again.{no-book, fresh-unknown, edition-word}
 use Rattle.cabinet.specs.Crossing.{Held, Crossed, crossed, crossing, calledOn, listedFrom, deliveredFrom, shownOn, shownFrom}
 use Rattle.cabinet.specs.Crossing.{readBy, writeAnswerBy, writeOutBy}
 use Rattle.cabinet.proofs.Calls.{nothing-words}
-use Rattle.cabinet.proofs.Given.{StartLfts, StartArgs, StartExit, startGiven, startLeft, ListLfts, ListArgs, ListExit, listFrom}
-use Rattle.cabinet.proofs.Given.{listGiven, listLeft, DeliverLfts, DeliverArgs, DeliverExit, deliverFrom, deliverGiven, deliverLeft}
-use Rattle.cabinet.proofs.Given.{RowLfts, RowArgs, RowExit, rowFrom, rowAsked, rowLeft, ReadLfts, ReadArgs, ReadExit, readEdition}
-use Rattle.cabinet.proofs.Given.{readMessage, readLeft, WriteLfts, WriteArgs, WriteExit, writeEdition, writeGiven, writeFrom}
-use Rattle.cabinet.proofs.Given.{writeLeft}
+use Rattle.called.proofs.Given.{StartLfts, StartArgs, StartExit, startGiven, startLeft, ListLfts, ListArgs, ListExit, listFrom}
+use Rattle.called.proofs.Given.{listGiven, listLeft, DeliverLfts, DeliverArgs, DeliverExit, deliverFrom, deliverGiven, deliverLeft}
+use Rattle.called.proofs.Given.{RowLfts, RowArgs, RowExit, rowFrom, rowAsked, rowLeft, ReadLfts, ReadArgs, ReadExit, readEdition}
+use Rattle.called.proofs.Given.{readMessage, readLeft, WriteLfts, WriteArgs, WriteExit, writeEdition, writeGiven, writeFrom}
+use Rattle.called.proofs.Given.{writeLeft}
 use Rattle.cabinet.proofs.sorundappa_start.Reads as start-reads
 use Rattle.cabinet.proofs.sorundappa_list.Reads as list-reads
 use Rattle.cabinet.proofs.sorundappa_deliver.Reads as deliver-reads
 use Rattle.cabinet.proofs.sorundappa_row.Reads as row-reads
 use Rattle.cabinet.proofs.sorundappa_read.Reads as read-reads
 use Rattle.cabinet.proofs.sorundappa_write.Reads as write-reads
 
 -- the edition's word of what is held names none
 abbrev pub Strange : Held → Type 0

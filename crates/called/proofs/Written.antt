@@ -29,11 +29,11 @@ use Rattle.message.proofs.Fitting.{read-fits}
 use Rattle.layouts.proofs.Demand2 as Layouts
 use Rattle.layouts.proofs.Demand2.{write-exactly, long-is}
 use Rattle.layouts.proofs.Trips.{ComesBack, BytesBack, read-then-written, read-again-exactly, read-again}
 use Rattle.cabinet.specs.Crossing.{readBy, writeAnswerBy, writeOutBy}
-use Rattle.cabinet.proofs.Given.{ReadLfts, ReadArgs, ReadExit, readEdition, readMessage, readLeft}
-use Rattle.cabinet.proofs.Given.{WriteLfts, WriteArgs, WriteExit, writeEdition, writeGiven, writeFrom, writeLeft}
+use Rattle.called.proofs.Given.{ReadLfts, ReadArgs, ReadExit, readEdition, readMessage, readLeft}
+use Rattle.called.proofs.Given.{WriteLfts, WriteArgs, WriteExit, writeEdition, writeGiven, writeFrom, writeLeft}
 use Rattle.cabinet.proofs.sorundappa_read.Reads as read-reads
 use Rattle.cabinet.proofs.sorundappa_write.Reads as write-reads
 
 module _ (κs : WriteLfts) (a : WriteArgs κs) (r : ℕ) (x : WriteExit κs) (h : write-reads.Learnt κs a r x) where
   -- the record that the eighty bytes are, and the space before the call and after it

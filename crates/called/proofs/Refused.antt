@@ -23,23 +23,23 @@ use Rattle.message.specs.Obeying.{Obeys}
 use Rattle.book.specs.declared.Shown.{Shown}
 use Rattle.book.specs.State.{State, lent, Outcome, Arrival}
 use Rattle.book.specs.Calls.{listed, delivered}
-use Rattle.book.proofs.EditionStays.{row-keeps-reported}
-use Rattle.book.proofs.OtherEdition.{other-edition-refused}
+use Rattle.upheld.proofs.EditionStays.{row-keeps-reported}
+use Rattle.upheld.proofs.OtherEdition.{other-edition-refused}
 use Rattle.book.proofs.Demand1.{refused-keeps}
 use Rattle.words.specs.declared.Meant.{Meant}
 use Rattle.words.specs.declared.Meant.the-variants.{Book, NoBook}
 use Rattle.words.specs.Words.{counterCount, counterWords, countersOf, rowCount, rowWords}
 use Rattle.words.proofs.Again.{words-again}
 use Rattle.cabinet.specs.Crossing.{Held, holding, heldOf, Crossed, crossed, crossing, calledOn, listedFrom, deliveredFrom, shownOn}
 use Rattle.cabinet.specs.Crossing.{shownFrom, SoundBook, readBy}
 use Rattle.cabinet.proofs.Calls.{nothing-words}
-use Rattle.cabinet.proofs.Given.{ListLfts, ListArgs, ListExit, listFrom, listGiven, listLeft, DeliverLfts, DeliverArgs, DeliverExit}
-use Rattle.cabinet.proofs.Given.{deliverFrom, deliverGiven, deliverLeft, RowLfts, RowArgs, RowExit, rowFrom, rowAsked, rowLeft}
-use Rattle.cabinet.proofs.Given.{ReadLfts, ReadArgs, ReadExit, readEdition, readMessage, readLeft}
+use Rattle.called.proofs.Given.{ListLfts, ListArgs, ListExit, listFrom, listGiven, listLeft, DeliverLfts, DeliverArgs, DeliverExit}
+use Rattle.called.proofs.Given.{deliverFrom, deliverGiven, deliverLeft, RowLfts, RowArgs, RowExit, rowFrom, rowAsked, rowLeft}
+use Rattle.called.proofs.Given.{ReadLfts, ReadArgs, ReadExit, readEdition, readMessage, readLeft}
 use Rattle.cabinet.proofs.sorundappa_list.Reads as list-reads
 use Rattle.cabinet.proofs.sorundappa_deliver.Reads as deliver-reads
 use Rattle.cabinet.proofs.sorundappa_row.Reads as row-reads
 use Rattle.cabinet.proofs.sorundappa_read.Reads as read-reads
 
 -- ---- a call that hands back what `calledOn` says
 

@@ -13,10 +13,10 @@ use Rattle.rows.specs.Rows.{rowIn}
 use Rattle.counters.proofs.Started.{used-up-stays, row-more-stays, taken-stays}
 use Rattle.take.proofs.Laws.{rows-kept}
 use Rattle.show.specs.Showing.{shownOf}
 use Rattle.book.specs.State.{State, Arrival, editionOf, sheetOf}
 use Rattle.book.specs.Calls.{listed, rowNamed, delivered, rowAnswer, rowFound, shown}
 use Rattle.book.proofs.Demand1.{row-told}
-use Rattle.book.proofs.Touches.{arrived, kindOfArrived, by-listing, by-arrival}
+use Rattle.upheld.proofs.Touches.{arrived, kindOfArrived, by-listing, by-arrival}
 
 -- after a listing and after a message, taken or refused: what the book was started with is what it was
 pub record EditionStays (s : State) : Type 0 where

@@ -1,0 +1,4 @@
+pub mod Given
+pub mod Refused
+pub mod Unknown
+pub mod Written

@@ -1,0 +1,3 @@
+pub mod Touches
+pub mod EditionStays
+pub mod OtherEdition
