@@ -29,7 +29,7 @@ answers! {
     NumberOutside = 1 "the number is 0 or above 4,294,967,295";
     NumberBelow = 2 "the number is below the wanted one";
     NumberAbove = 3 "the number is above the wanted one";
-    NoType = 4 "there is no such type, or the length is not its type's";
+    NoType = 4 "the edition has no such type, or the length is not its type's";
     FieldBroken = 5 "a field breaks its rule";
     NotDue = 6 "the event or message is not due in this phase";
     NotListed = 7 "the symbol is not listed";

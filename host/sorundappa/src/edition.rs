@@ -1,4 +1,5 @@
 //! The editions of the feed.
+use std::fmt;
 
 /// Which layouts messages have. A book is started for one edition and reads its messages by no other.
 #[derive(Clone, Copy, Debug, PartialEq, Eq, Hash)]
@@ -8,6 +9,15 @@ pub enum Edition {
     NlsPlus = 0,
     /// PLS 1.1, in ASCII: S, T, X and C, without a consolidated volume.
     Pls = 1,
+}
+
+impl fmt::Display for Edition {
+    fn fmt(&self, out: &mut fmt::Formatter<'_>) -> fmt::Result {
+        out.pad(match self {
+            Edition::NlsPlus => "NLS Plus 2.0",
+            Edition::Pls => "PLS 1.1",
+        })
+    }
 }
 
 impl Edition {
@@ -25,6 +35,7 @@ impl Edition {
     /// use sorundappa::Edition;
     /// assert_eq!(Edition::of(1), Some(Edition::Pls));
     /// assert_eq!(Edition::of(2), None);
+    /// assert_eq!(Edition::Pls.to_string(), "PLS 1.1");
     /// ```
     pub fn of(number: u64) -> Option<Edition> {
         Edition::ALL.into_iter().find(|edition| edition.number() == number)

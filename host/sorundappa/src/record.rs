@@ -44,6 +44,11 @@ impl Record {
     /// assert_eq!(Record::read(Edition::NlsPlus, b"\x00\x00\x03\xe8SZ"), Err(ReadError::FieldBroken));
     /// assert_eq!(Record::read(Edition::Pls, b"    1000SO"), Ok(event));
     /// assert_eq!(Record::read(Edition::Pls, b"\x00\x00\x03\xe8SO"), Err(ReadError::NoType));
+    ///
+    /// // time, letter, centre, symbol, class, control, price in ten-thousandths, size, condition
+    /// let message = b"34200000TXABCD    QA1            251000      100@   ";
+    /// let trade = Record::read(Edition::Pls, message).unwrap();
+    /// assert_eq!((&trade.symbol, trade.sale.price, trade.sale.size), (b"ABCD    ", 251_000, 100));
     /// ```
     pub fn read(edition: Edition, message: &[u8]) -> Result<Record, ReadError> {
         let mut bytes = [0; 80];
