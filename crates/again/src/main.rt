@@ -1,4 +1,6 @@
 // Each sound message read and written back, and what is refused.
+#![tactic(auto)]
+
 mod back;
 mod refused;
 mod sound;

@@ -1,5 +1,7 @@
 // The book of one day: counters by value, rows and lines in lent bytes. No call counts on its caller for a check, and a
 // refused one leaves every lent byte as it was.
+#![tactic(auto)]
+
 ghost use Rattle.std.specs.Prelude.{◌≡◌};
 ghost use Rattle.answers.specs.Answers.{answer_of};
 ghost use Rattle.answers.specs.Cases.{given};
@@ -20,21 +22,21 @@ use table::{judge, judge_number};
 use take::{take_lines, take_rows};
 
 // The answer to a listing or a message, and the counters that follow from it.
-#[derive(Drop)]
+#[derive(Clone, Copy)]
 pub struct Said {
     pub answer: Answer,
     pub counters: Counters,
 }
 
 // The answer to the reading of a row, and the row: of zeros and absent figures where the answer is not `Done`.
-#[derive(Drop)]
+#[derive(Clone, Copy)]
 pub struct Shown {
     pub answer: Answer,
     pub row: RowShown,
 }
 
 // Which row of the room a symbol is, if it is listed.
-#[derive(Drop)]
+#[derive(Clone, Copy)]
 struct Located {
     answer: Answer,
     row: usize,

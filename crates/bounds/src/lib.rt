@@ -1,4 +1,6 @@
 // Numbers that keep inside their bounds.
+#![tactic(auto)]
+
 ghost use Rattle.std.specs.Prelude.{◌≡◌, min};
 ghost use Rattle.bounds.specs.Up as Up;
 

@@ -4,6 +4,8 @@
 // on a book, and nothing changes. A clause `types` says what the types of the parameters say of what came in, for
 // whoever reasons about calls.
 // `include/sorundappa.h` says the same in C.
+#![tactic(auto)]
+
 ghost use Rattle.std.specs.Prelude.{◌≡◌};
 ghost use Rattle.answers.specs.Answers.{number_of, answer_of};
 ghost use Rattle.editions.specs.Editions.{edition_named};

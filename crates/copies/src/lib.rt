@@ -1,5 +1,7 @@
 // Bytes copied from one place to another. Whether all of them stand inside, here and there, is asked first: if so,
 // several go at a time (`octets::run::paste`); past the end of either side they go one by one.
+#![tactic(auto)]
+
 ghost use Rattle.std.specs.Prelude.{◌≡◌, ◌&&◌, ◌-◌, leb, get_or, set};
 ghost use Rattle.std.proofs.lemmas.List.Edits.{sets};
 ghost use Rattle.octets.specs.Run.{part};

@@ -1,5 +1,7 @@
 // The counters of a book: what moves together as one value. Each move returns the new value; whatever counters
 // arrive, it is total.
+#![tactic(auto)]
+
 ghost use Rattle.std.specs.Prelude.{◌≡◌};
 ghost use Rattle.counters.specs.Counting as Counting;
 
@@ -9,7 +11,7 @@ use kinds::{Kind, is_event, makes_new};
 use phases::phase_of;
 
 // What a book is started with. No move changes it.
-#[derive(Drop)]
+#[derive(Clone, Copy)]
 pub struct Start {
     // The edition whose layouts the book reads its messages by.
     pub edition: Edition,
@@ -17,7 +19,7 @@ pub struct Start {
 
 // What the book was started with, the wanted number, the phase, and the counts: rows used, lines used, messages taken.
 // The phase is 0 before any event was taken, then 1 to 6 for O S Q M E C.
-#[derive(Drop)]
+#[derive(Clone, Copy)]
 pub struct Counters {
     pub start: Start,
     pub wanted: u64,

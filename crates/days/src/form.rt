@@ -3,7 +3,7 @@
 use std::num::{wrapping_add_u64, wrapping_add_usize};
 
 // Where the next byte goes, the number so far, and whether a bracket is open.
-#[derive(Drop)]
+#[derive(Clone, Copy)]
 pub struct Pen(pub usize, pub u64, pub bool);
 
 // Takes one byte of a line: what it stands for goes to the pen's place, and the pen moves on.

@@ -1,4 +1,6 @@
 // Days played from a script: each call with what it answers and the book after it.
+#![tactic(auto)]
+
 mod form;
 mod play;
 mod rooms;

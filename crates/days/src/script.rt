@@ -14,7 +14,7 @@ use numbers::number8;
 use octets::run;
 
 // A book's counters, and how many bytes are lent to it.
-#[derive(Drop)]
+#[derive(Clone, Copy)]
 struct Day {
     counters: Counters,
     rows: usize,

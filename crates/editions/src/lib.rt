@@ -1,8 +1,10 @@
 // The editions of the feed: which layouts a book reads its messages by. A book is started for one of them.
+#![tactic(auto)]
+
 ghost use Rattle.std.specs.Prelude.{◌≡◌};
 ghost use Rattle.editions.specs.Editions.{edition_number, edition_named, reports};
 
-#[derive(Drop)]
+#[derive(Clone, Copy)]
 pub enum Edition {
     // NLS Plus 2.0, the binary feed of document 01.
     NlsPlus,
@@ -11,7 +13,7 @@ pub enum Edition {
 }
 
 // What a number names: an edition, or nothing.
-#[derive(Drop)]
+#[derive(Clone, Copy)]
 pub enum Named {
     Known(Edition),
     Unknown,

@@ -1,5 +1,7 @@
 // Eight bytes as one number, so that they are compared at once: the first byte is the lowest, which is the order in
 // which the machine has them.
+#![tactic(auto)]
+
 ghost use Rattle.std.specs.Prelude.{◌≡◌, ◌+◌, ◌≤◌, length};
 ghost use Rattle.octets.specs.Run.{part};
 ghost use Rattle.numbers.specs.Number.{digits};

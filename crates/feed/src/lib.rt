@@ -1,5 +1,7 @@
 // A tape of any length, played in pieces as they come: what a piece leaves over is moved to its front, and the next is
 // read behind it.
+#![tactic(auto)]
+
 pub mod reading;
 
 ghost use Rattle.std.specs.Prelude.{◌≡◌};
@@ -13,7 +15,7 @@ use tape::Stop;
 
 // What came of a piece: the counters after it, how many of its bytes were used, how many are held at its front now, and
 // why the play stopped.
-#[derive(Drop)]
+#[derive(Clone, Copy)]
 pub struct Fed {
     pub counters: Counters,
     pub used: usize,

@@ -9,7 +9,7 @@ use tape::Stop;
 
 // The book's counters, how many bytes of an entry that is not whole yet stand at the front of the piece, the offset on
 // the tape of the first byte that is not played, modulo 2 to the 64, and why the play stands there.
-#[derive(Drop)]
+#[derive(Clone, Copy)]
 pub struct Reading {
     pub counters: Counters,
     pub held: usize,

@@ -1,23 +1,25 @@
 // The figures of a row: what is read from the live trades of a symbol, and how one more trade changes each of them.
+#![tactic(auto)]
+
 ghost use Rattle.std.specs.Prelude.{◌≡◌, cond};
 ghost use Rattle.figures.specs.Figures.{raise, lower, later};
 
 // A price, or none if no trade has set it.
-#[derive(Drop)]
+#[derive(Clone, Copy)]
 pub enum Price {
     Absent,
     Of(u32),
 }
 
 // The newest trade that may be the last: its place and its price.
-#[derive(Drop)]
+#[derive(Clone, Copy)]
 pub enum Last {
     NoLast,
     Trade(u32, u32),
 }
 
 // What a row reads from the live lines of its symbol.
-#[derive(Drop)]
+#[derive(Clone, Copy)]
 pub struct Figures {
     pub volume: u64,
     pub count: u64,

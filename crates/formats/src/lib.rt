@@ -1,5 +1,7 @@
 // The layouts at work, by the edition: each function here asks the edition once, and calls `packing` for NLS Plus or,
 // for PLS, `pls`, `plsread` and `plswrite`.
+#![tactic(auto)]
+
 ghost use Rattle.std.specs.Prelude.{◌≡◌};
 ghost use Rattle.std.proofs.lemmas.List.Edits.{sets};
 ghost use Rattle.records.specs.Held.{filled_in, ready_in, bytes_in};

@@ -1,4 +1,6 @@
 // Whether a record keeps the rules of its type, asked of its eighty bytes, so that no record is copied to be judged.
+#![tactic(auto)]
+
 ghost use Rattle.std.specs.Prelude.{◌≡◌, ◌||◌, ◌+◌, ◌≤◌, length};
 ghost use Rattle.octets.specs.Run.{part, all};
 ghost use Rattle.editions.specs.Editions.{reports};

@@ -1,4 +1,6 @@
 // The keys of a message's trades, and whether a line is the trade that a message names.
+#![tactic(auto)]
+
 ghost use Rattle.std.specs.Prelude.{◌≡◌, ◌∷◌};
 ghost use Rattle.keys.specs.Keys as Keys;
 

@@ -1,10 +1,12 @@
 // A message's type, which its letter names. The letters stand here and nowhere else; whoever goes by the type goes by
 // its `Kind`, and by what `traits_of` says of it.
+#![tactic(auto)]
+
 ghost use Rattle.std.specs.Prelude.{◌≡◌};
 ghost use Rattle.kinds.specs.Kinds.{kind_of, kind_at, traits_of};
 ghost use Rattle.kinds.specs.Kinds.{is_event, is_correction, is_summary, names_old, makes_new, sets_volume};
 
-#[derive(Drop)]
+#[derive(Clone, Copy)]
 pub enum Kind {
     // S, system event.
     Event,
@@ -60,7 +62,7 @@ pub fn kind_at(place: u64) -> Kind
 }
 
 // What is asked of a type besides its letter and its layout.
-#[derive(Drop)]
+#[derive(Clone, Copy)]
 pub struct Traits {
     // It is an event.
     pub event: bool,

@@ -1,4 +1,6 @@
 // Lines: one cell of bytes for each trade.
+#![tactic(auto)]
+
 ghost use Rattle.std.specs.Prelude.{◌≡◌, ◌+◌, ◌*◌, ◌≤◌, length};
 ghost use Rattle.std.proofs.lemmas.List.Edits.{sets};
 ghost use Rattle.lines.specs.Cell.{line_cell};
@@ -9,7 +11,7 @@ use bounds::lesser;
 use cells::Found;
 
 // The key is the centre and the control. `place` is the number of the message that first made the trade.
-#[derive(Drop)]
+#[derive(Clone, Copy)]
 pub struct Line {
     pub key: [u8; KEY],
     pub symbol: [u8; 8],

@@ -1,6 +1,8 @@
 // One message of an edition of the feed, read from bytes and written to bytes. A record is filled, judged and stored as
 // its eighty bytes (`records::packed`); as a struct it is made once, at the end of `read`, and taken apart once, at the
 // start of `write`. Nothing here goes by the type: `formats` has each type's fields moved, and `judge` asks its rules.
+#![tactic(auto)]
+
 ghost use Rattle.std.specs.Prelude.{◌≡◌};
 ghost use Rattle.records.specs.Fits.{RecordFits};
 ghost use Rattle.records.specs.Packed.{record_of, record_bytes};
@@ -17,7 +19,7 @@ use records::{RECORD, Record};
 use single::byte;
 
 // What reading says back: a record of zeros where the answer is not `Done`.
-#[derive(Drop)]
+#[derive(Clone, Copy)]
 pub struct Reading {
     pub answer: Answer,
     pub found: Record,

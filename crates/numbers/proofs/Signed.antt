@@ -22,7 +22,7 @@ abbrev pub left : ℤ → ℤ
 left y = negsuc 0 -ℤ y
 
 pub held_is : (z : ℤ) → mag z < 2 ^ 63 → held z ≡ z
-held_is z h = to_z-of_z (record { sfits = h })
+held_is z h = to_z-of_z {w = w64} (record { sfits = h })
 
 left_is : (a : ℕ) → left (negsuc a) ≡ pos a
 left_is a = rw (le-ltb (suc a) 1 (omega arith)) (ap pos (omega arith))

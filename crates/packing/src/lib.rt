@@ -1,6 +1,8 @@
 // The layouts of NLS Plus 2.0 at work: the fields of a message moved to their places in the eighty bytes of a record
 // (`records::packed`), and back. What each contract says is computed from the layout of the type
 // (`specs/Layouts.antt`); the code is straight-line, one function for a type and a way.
+#![tactic(auto)]
+
 ghost use Rattle.std.specs.Prelude.{◌≡◌, replicate};
 ghost use Rattle.std.proofs.lemmas.List.Edits.{sets};
 ghost use Rattle.records.specs.Held.{read_by, write_by, filled_in, bytes_in};

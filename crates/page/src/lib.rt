@@ -1,4 +1,6 @@
 // The printed wall as a whole: its lines one after the other, and the text that they are.
+#![tactic(auto)]
+
 ghost use Rattle.std.specs.Prelude.{◌≡◌, min, length};
 ghost use Rattle.std.proofs.lemmas.List.Edits.{sets};
 ghost use Rattle.print.specs.Texts.{row_text};
@@ -13,7 +15,7 @@ use single::left;
 use tape::Stop;
 
 // How a tape came to its end: with nothing left of it, or at the offset of the kind byte of what cannot be played.
-#[derive(Drop)]
+#[derive(Clone, Copy)]
 pub enum Ending {
     Complete,
     StopsAt(u64),

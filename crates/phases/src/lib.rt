@@ -1,4 +1,6 @@
 // The phases of a day, which its events begin, and which messages are due in each.
+#![tactic(auto)]
+
 ghost use Rattle.std.specs.Prelude.{◌≡◌};
 ghost use Rattle.phases.specs.Phases as Phases;
 

@@ -1,5 +1,7 @@
 // The layouts of PLS 1.1 (`specs/Layouts.antt`), and their numbers: how long a message is, and where its fields stand.
 // `plsread` moves the fields of a message into a record by them, and `plswrite` those of a record into a message.
+#![tactic(auto)]
+
 ghost use Rattle.std.specs.Prelude.{◌≡◌};
 ghost use Rattle.pls.specs.Layouts.{length_of};
 

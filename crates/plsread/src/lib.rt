@@ -2,6 +2,8 @@
 // each contract says is computed from the layout of the type (`pls`); the code is straight-line, one function for a
 // type. Numbers are spelt in digits (`number`), and what is read says whether each of them can be stored: whether its
 // bytes spell a number of 32 bits.
+#![tactic(auto)]
+
 mod number;
 
 ghost use Rattle.std.specs.Prelude.{◌≡◌, ◌+◌, ◌≤◌, length, replicate};

@@ -4,7 +4,7 @@ ghost use Rattle.digits.specs.Field.{blanks};
 ghost use Rattle.plsread.specs.Moved.{number_of};
 
 // What a field says: whether its bytes spell a number, and which; 0 where they spell none.
-#[derive(Drop)]
+#[derive(Clone, Copy)]
 pub(crate) struct Number {
     pub(crate) spelt: bool,
     pub(crate) value: u64,

@@ -1,6 +1,8 @@
 // A message of PLS 1.1 written: the fields of a record moved from its eighty bytes (`records::packed`) to their places
 // in the message. What each contract says is computed from the layout of the type (`pls`); the code is straight-line,
 // one function for a type. Numbers are spelt in digits (`number`).
+#![tactic(auto)]
+
 mod number;
 
 ghost use Rattle.std.specs.Prelude.{◌≡◌, ◌+◌, ◌≤◌, length};

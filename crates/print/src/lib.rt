@@ -1,5 +1,7 @@
 // The printed wall as bytes in a lent buffer. A text that does not fit is cut at the end of the buffer; the number that
 // comes back is the whole text's length.
+#![tactic(auto)]
+
 mod columns;
 mod symbols;
 

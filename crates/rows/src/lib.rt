@@ -1,5 +1,7 @@
 // Rows: one cell of bytes for each listed symbol. The listings of the used rows, in their order, are the sheet of the
 // day.
+#![tactic(auto)]
+
 ghost use Rattle.std.specs.Prelude.{◌≡◌, ◌+◌, ◌*◌, ◌≤◌, length};
 ghost use Rattle.octets.specs.Run.{part};
 ghost use Rattle.eights.specs.Low.{low};
@@ -12,28 +14,28 @@ use bounds::lesser;
 use cells::Found;
 
 // What is listed: a symbol and its adjusted previous close. A close of 0 is unknown.
-#[derive(Drop)]
+#[derive(Clone, Copy)]
 pub struct Listing {
     pub symbol: [u8; 8],
     pub close: u32,
 }
 
 // What the latest J that was taken says: its high and its low.
-#[derive(Drop)]
+#[derive(Clone, Copy)]
 pub enum Summary {
     NoSummary,
     HighLow(u32, u32),
 }
 
 // The consolidated volume that was reported last.
-#[derive(Drop)]
+#[derive(Clone, Copy)]
 pub enum Reported {
     NotSet,
     Volume(u64),
 }
 
 // A listing, and what messages of its symbol left in its row.
-#[derive(Drop)]
+#[derive(Clone, Copy)]
 pub struct Row {
     pub listing: Listing,
     pub summary: Summary,

@@ -1,6 +1,8 @@
 // The field rules of document 01 and of the editions, each asked of one value. Which layout asks which rule of which
 // field is said by the tables in `packing` and `pls`. The rule of a symbol or a control is `texts::is_text`; a
 // consolidated volume has none.
+#![tactic(auto)]
+
 ghost use Rattle.std.specs.Prelude.{◌≡◌, [], ◌∷◌};
 ghost use Rattle.editions.specs.declared.Edition.TheVariants.{NlsPlus, Pls};
 ghost use Rattle.layout.specs.Forms.{inside};

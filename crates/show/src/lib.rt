@@ -1,4 +1,6 @@
 // A row as it is read: what is kept in it and the figures of its symbol's live lines.
+#![tactic(auto)]
+
 ghost use Rattle.std.specs.Prelude.{◌≡◌};
 ghost use Rattle.show.specs.Showing as Showing;
 
@@ -6,13 +8,13 @@ use figures::{Figures, Last, Price};
 use rows::{Reported, Row, Summary};
 
 // Last less close, where both are known.
-#[derive(Drop)]
+#[derive(Clone, Copy)]
 pub enum Net {
     NoNet,
     Amount(i64),
 }
 
-#[derive(Drop)]
+#[derive(Clone, Copy)]
 pub struct RowShown {
     pub symbol: [u8; 8],
     pub close: u32,

@@ -1,5 +1,7 @@
 // Single bytes of lent bytes: read and stored, and how many there are. Every function here is total: a byte past the
 // end is read as 0, and a byte stored past the end goes nowhere, so no caller has a length to show.
+#![tactic(auto)]
+
 ghost use Rattle.std.specs.Prelude.{◌≡◌, ◌+◌, ◌-◌, get_or, set};
 
 // How many bytes stand from a place on. Whoever wants n bytes there asks this once and then needs no test for each.

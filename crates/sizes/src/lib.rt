@@ -1,4 +1,6 @@
 // The sizes that a caller of the library needs: what it lends room by, and how much of it is written.
+#![tactic(auto)]
+
 ghost use Rattle.std.specs.Prelude.{◌≡◌};
 ghost use Rattle.sizes.specs.Sizes.{size_of, length_at};
 

@@ -1,4 +1,6 @@
 // Whether a book is sound: each of the four calls of the book that is lent one asks this first.
+#![tactic(auto)]
+
 ghost use Rattle.std.specs.Prelude.{◌≡◌};
 ghost use Rattle.sound.specs.Sound.{sound};
 

@@ -1,4 +1,6 @@
 // The answer table of a message, worked: reads, changes nothing.
+#![tactic(auto)]
+
 ghost use Rattle.std.specs.Prelude.{◌≡◌};
 ghost use Rattle.answers.specs.Answers.{answer_of};
 ghost use Rattle.answers.specs.Cases.{given};
@@ -16,7 +18,7 @@ use phases::is_due;
 use records::Record;
 
 // What the table gives, and what acting on it needs: the row of the message's symbol and the line that it names.
-#[derive(Drop)]
+#[derive(Clone, Copy)]
 pub struct Verdict {
     pub answer: Answer,
     pub row: usize,

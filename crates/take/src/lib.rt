@@ -1,4 +1,6 @@
 // What a taken message does to the lent bytes.
+#![tactic(auto)]
+
 ghost use Rattle.std.specs.Prelude.{◌≡◌};
 ghost use Rattle.take.specs.Taking as Taking;
 

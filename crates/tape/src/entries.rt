@@ -15,7 +15,7 @@ use rows::Listing;
 use single::byte;
 
 // What stands at the head of a run of bytes: a whole entry of that many bytes, or none, and why.
-#[derive(Drop)]
+#[derive(Clone, Copy)]
 pub enum Head {
     Whole(usize),
     Stops(Stop),

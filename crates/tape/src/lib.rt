@@ -1,5 +1,7 @@
 // Playing a part of a tape on a book. A tape of any length is played part by part: what a part leaves over goes before
 // the next.
+#![tactic(auto)]
+
 mod entries;
 
 ghost use Rattle.std.specs.Prelude.{◌≡◌};
@@ -10,7 +12,7 @@ use counters::Counters;
 use entries::{Head, head_at, play_entry};
 
 // Why the play of a part stopped.
-#[derive(Drop)]
+#[derive(Clone, Copy)]
 pub enum Stop {
     // Nothing is left.
     Ended,
@@ -21,7 +23,7 @@ pub enum Stop {
 }
 
 // What came of a play: the counters after it, how many bytes were used, and why it stopped there.
-#[derive(Drop)]
+#[derive(Clone, Copy)]
 pub struct Played {
     pub counters: Counters,
     pub used: usize,

@@ -1,5 +1,7 @@
 // Words, numbers, texts and bytes on standard output, for the programs that tell what the library answers.
 // No contract can say what is written there. Each function is proved to be safe and to end, and it returns nothing.
+#![tactic(auto)]
+
 use libc::STDOUT_FILENO;
 
 // The words as they stand.

@@ -1,5 +1,7 @@
 // What the reader takes in each field of each type: every byte value tried at every byte of its letters and texts,
 // its numbers at both ends of their ranges, and every length from 0 to 80.
+#![tactic(auto)]
+
 mod lengths;
 mod ranges;
 mod runs;

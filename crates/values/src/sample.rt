@@ -1,7 +1,7 @@
 // A message to try: the first `length` of its bytes, printed under the letter `kind`.
 use editions::Edition;
 
-#[derive(Drop)]
+#[derive(Clone, Copy)]
 pub struct Sample {
     pub kind: u8,
     pub bytes: [u8; 80],

@@ -1,4 +1,6 @@
 // The walk of one symbol's live lines into its figures.
+#![tactic(auto)]
+
 ghost use Rattle.std.specs.Prelude.{◌≡◌, ◌&&◌, ◌+◌, ◌*◌, ◌≤◌, ◌<◌, ◌^◌, eqb, length, get_or};
 ghost use Rattle.octets.specs.Run.{part};
 ghost use Rattle.lines.specs.Cell.{line_cell, at_symbol, at_live};

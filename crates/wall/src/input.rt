@@ -6,7 +6,7 @@ use libc::STDIN_FILENO;
 use tape::Stop;
 
 // What is known of the rest of the tape.
-#[derive(Drop)]
+#[derive(Clone, Copy)]
 pub enum Rest {
     // It may go on.
     Open,
@@ -17,7 +17,7 @@ pub enum Rest {
 }
 
 // How the reading stands, and the rest of the tape.
-#[derive(Drop)]
+#[derive(Clone, Copy)]
 pub struct Tape {
     pub reading: Reading,
     pub rest: Rest,

@@ -1,5 +1,7 @@
 // Plays the tape on standard input, piece by piece, and prints the wall once it ends. A tape that could not be read to
 // its end has no wall: it would look like a whole day's.
+#![tactic(auto)]
+
 mod input;
 mod paper;
 mod rooms;

@@ -1,5 +1,7 @@
 // Counters and a row as words of 64 bits, as a program of another language passes them. Which word is which is said in
 // `specs/Words.antt`; the numbers here are held to it.
+#![tactic(auto)]
+
 ghost use Rattle.std.specs.Prelude.{◌≡◌, cond, length};
 ghost use Rattle.words.specs.Words as W;
 
@@ -11,7 +13,7 @@ use rows::Reported;
 use show::{Net, RowShown};
 
 // What words are: the counters of a book, or no book's words, because the last of them is no edition's number.
-#[derive(Drop)]
+#[derive(Clone, Copy)]
 pub enum Meant {
     Book(Counters),
     NoBook,

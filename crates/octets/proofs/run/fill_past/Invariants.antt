@@ -1,0 +1,18 @@
+-- `octets::run::fill_past` meets its contract. The loop: what is left of the run, stored from i on, makes the whole.
+-- Assumes nothing.
+use mathlib.Core.List.{List}
+use mathlib.Core.Path.{◌≡◌, refl, ap, sym, ◌∙◌}
+use Prim.Native.Nat.{◌<◌, ℕ, ◌-◌, ◌≤◌}
+use native.Mathlib.Omega.{arith}
+use lib.ListN.{length, length-set}
+use lib.Seq.{sets}
+use borrow.Author.Rules.{rules}
+use Rattle.octets.proofs.Laws.{part_length, part_left, fill_turn, sets_all, tab_end}
+use Rattle.octets.specs.Run.{tab, past, part}
+use Rattle.octets.proofs.run.fill_past.Given as goal
+
+abbrev pub invariant-loop-i : goal.invariant-loop-i
+invariant-loop-i l = (l.i ≤ length l.initial.out) × (length l.out ≡ length l.initial.out) × (sets l.out l.i (tab (past l.s l.at) l.i (length l.initial.out - l.i)) ≡ part l.s l.at (length l.initial.out))
+
+abbrev pub decreases-loop-i : goal.decreases-loop-i
+decreases-loop-i l = length l.initial.out - l.i
