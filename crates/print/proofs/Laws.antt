@@ -65,7 +65,7 @@ pub net_figure : {l l₁ : List ℕ} (at k : ℕ) (z : ℤ) → mag z < 2 ^ 63
     → (l₁ ≡ sets l at (signed_text (to_z w64 (of_z w64 z)))) × (k ≡ length (signed_text (to_z w64 (of_z w64 z))))
     → Put 21 l at (signed_text z) l₁ (at + k)
 net_figure {l} {l₁} at k z h p =
-    let e : to_z w64 (of_z w64 z) ≡ z = to_z-of_z (record { sfits = h }) in
+    let e : to_z w64 (of_z w64 z) ≡ z = to_z-of_z {w = w64} (record { sfits = h }) in
     figure 21 at k (p.0 ∙ ap (λ (y : ℤ). sets l at (signed_text y)) e, p.1 ∙ ap (λ (y : ℤ). length (signed_text y)) e) (signed_short z h)
 
 -- ---- lines

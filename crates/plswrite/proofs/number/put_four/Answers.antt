@@ -1,0 +1,10 @@
+-- `plswrite::number::put_four` meets its contract.
+-- Assumes nothing.
+use native.Mathlib.Omega.{arith}
+use lib.ListN.{length-set}
+use borrow.Author.Rules.{rules}
+use Rattle.plswrite.proofs.Shown.{four_low}
+use Rattle.plswrite.proofs.number.put_four.Goals as goal
+
+pub returns : goal.returns
+returns c = let a = c.args in let told = (four_low a.out.now a.at a.x c.spread-word.result c.spread-word.ensures) in record { bytes = told.0; left = told.1 }

@@ -1,0 +1,19 @@
+-- `plswrite::put_sale` meets its contract.
+-- Assumes nothing.
+use mathlib.Core.Path.{refl}
+use native.Mathlib.Omega.{arith}
+use Rattle.plswrite.proofs.Laid.{sale_shown_lem}
+use borrow.Author.Rules.{rules}
+use Rattle.plswrite.proofs.put_sale.Goals as goal
+
+pub returns : goal.returns
+returns c = let a = c.args in 
+    rw (
+      c.copy_four.ensures,
+      c.put_number-2.ensures,
+      c.number4-2.ensures,
+      c.put_number.ensures,
+      c.number4.ensures,
+      c.copy_run.ensures,
+    )
+    (sale_shown_lem a.out.now a.b.now a.to a.at)

@@ -1,0 +1,14 @@
+-- `print::closing` meets its contract.
+-- Assumes nothing.
+-- what a call brings fits its types
+use mathlib.Core.Path.{refl}
+use Prim.Native.Nat.{◌^◌, ◌<◌}
+use lib.Dec.{lit≤}
+use Rattle.print.proofs.Laws.{reach, from_start, closing_put}
+use borrow.Author.Rules.{rules}
+use Rattle.print.proofs.closing.Goals as goal
+
+pub returns : goal.returns
+returns c = let a = c.args in let told = (from_start (closing_put a.taken a.wanted c.refused.result c.refused.ensures
+    c.put_named-a.ensures c.put_named-b.ensures c.put_named-c.ensures
+    c.put_byte.ensures)) in record { bytes = told.0; count = told.1 }

@@ -1,0 +1,8 @@
+-- `print::columns::put_counts` meets its contract.
+-- Assumes nothing.
+use Rattle.print.proofs.Laws.{then}
+use borrow.Author.Rules.{rules}
+use Rattle.print.proofs.columns.put_counts.Goals as goal
+
+pub returns : goal.returns
+returns c = then c.put_named-a.ensures (then c.put_named-b.ensures c.put_reported.ensures)

@@ -1,0 +1,10 @@
+-- `records::packed::sale_at` meets its contract.
+-- Assumes nothing.
+use borrow.Author.Rules.{rules}
+use Rattle.records.specs.Held.{sale_from}
+use Rattle.records.specs.Packed as W
+use Rattle.records.proofs.packed.sale_at.Goals as goal
+
+pub returns : goal.returns
+unfolding W.sale_at sale_from
+returns c = simp (c.fill-2.ensures, c.number4-size.ensures, c.number4-price.ensures, c.fill.ensures)

@@ -1,0 +1,25 @@
+-- `walk::walk` meets its contract. The loop: what is left of the lines, with the figures so far, makes the whole.
+-- Assumes nothing.
+use mathlib.Core.Path.{◌≡◌, sym, ◌∙◌}
+use mathlib.Core.List.{List}
+use Prim.Native.Nat.{ℕ, ◌-◌, ◌*◌, ◌≤◌}
+use native.Mathlib.Nat.{sub-zero}
+use native.Mathlib.Omega.{arith}
+use lib.ListN.{length, get_or}
+use mir.Syntax.{w8}
+use mir.Val.{Fits}
+use Rattle.octets.specs.Run.{tab, part, Bytes}
+use Rattle.lines.specs.Cell.{line_cell}
+use Rattle.lines.specs.Lines.{line_at, line_limit, used_lines}
+use Rattle.eights.proofs.Low.{Named}
+use Rattle.walk.specs.Walking.{fold, tally, figures_of}
+use Rattle.walk.proofs.Laws.{fold_step, fold_end, counts_number, tally_counted, tally_other}
+use borrow.Author.Rules.{rules}
+use Rattle.walk.proofs.walk.Given as goal
+
+abbrev pub invariant-loop-i : goal.invariant-loop-i
+invariant-loop-i l = (l.n ≤ line_limit (length l.lines)) × (l.i ≤ l.n) × (l.t.volume ≤ l.i * 4294967295) × (l.t.count ≤ l.i) ×
+    ((symbol : List ℕ) → Named l.name symbol → fold (tally symbol) l.t (tab (line_at l.lines) l.i (l.n - l.i)) ≡ figures_of symbol (used_lines l.lines l.used))
+
+abbrev pub decreases-loop-i : goal.decreases-loop-i
+decreases-loop-i l = l.n - l.i
