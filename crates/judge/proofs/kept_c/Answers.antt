@@ -1,0 +1,13 @@
+-- `judge::kept_c` meets its contract.
+-- Assumes nothing.
+use Rattle.octets.specs.Run.{tab, part}
+use Rattle.records.specs.Held.{read_by, record_from, new_from}
+use Rattle.records.specs.Packed.{slots, packed, record_of}
+use Rattle.judge.proofs.Asked.{c_rules}
+use borrow.Author.Rules.{rules}
+use Rattle.judge.proofs.kept_c.Goals as goal
+
+pub returns : goal.returns
+unfolding record_of read_by record_from new_from packed slots part tab
+returns c = simp (c.sale_ok.ensures, c.number4-size.ensures, c.number4-price.ensures, c.trade_ok-head.ensures)
+    (c_rules c.args.edition (record_of c.args.b.now))
