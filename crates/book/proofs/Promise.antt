@@ -19,6 +19,7 @@ use borrow.Fn.World.{ArgsD}
 use borrow.Fn.Kinds.{ended_of}
 use denote.Triple.Clauses.{AtExit}
 use denote.Ref.{Bor}
+use denote.MutBor.{MutBor}
 use Rattle.book.proofs.fresh.Reads as fresh-reads
 use Rattle.book.specs.contracts.list as list
 use Rattle.book.proofs.list.Reads as list-reads
@@ -85,23 +86,27 @@ some_lfts (suc n) = ([], some_lfts n)
 abbrev pub slice : List ℕ → Bor (List ℕ)
 slice xs = record { ref_ptr = (0, 0); now = xs }
 
+-- a slice that a call may write to
+abbrev pub written : List ℕ → MutBor (List ℕ)
+written xs = record { ref_ptr = (0, 0); ghost_name = 0; now = xs }
+
 abbrev pub list_at : ListLfts
 list_at = some_lfts (list.signature).lifetimes
 
 abbrev pub list_with : State → Listing → ListArgs list_at
-list_with s l = (s.counters, (slice s.rows, (slice s.lines, (l, tt))))
+list_with s l = (s.counters, (written s.rows, (slice s.lines, (l, tt))))
 
 abbrev pub list_then : State → Listing → ListExit list_at
-list_then s l = (s.counters, (slice s.rows, (slice s.lines, (l, tt))))
+list_then s l = (s.counters, (written s.rows, (slice s.lines, (l, tt))))
 
 abbrev pub deliver_at : DeliverLfts
 deliver_at = some_lfts (deliver.signature).lifetimes
 
 abbrev pub deliver_with : State → Arrival → DeliverArgs deliver_at
-deliver_with s a = (s.counters, (slice s.rows, (slice s.lines, (a.number, (slice a.message, tt)))))
+deliver_with s a = (s.counters, (written s.rows, (written s.lines, (a.number, (slice a.message, tt)))))
 
 abbrev pub deliver_then : State → Arrival → DeliverExit deliver_at
-deliver_then s a = (s.counters, (slice s.rows, (slice s.lines, (a.number, (slice a.message, tt)))))
+deliver_then s a = (s.counters, (written s.rows, (written s.lines, (a.number, (slice a.message, tt)))))
 
 abbrev pub read_at : RowLfts
 read_at = some_lfts (row.signature).lifetimes
