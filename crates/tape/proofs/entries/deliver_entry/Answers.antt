@@ -1,0 +1,8 @@
+-- `tape::entries::deliver_entry` meets its contract.
+-- Assumes nothing.
+use Rattle.tape.proofs.Plays.{message_acted}
+use borrow.Author.Rules.{rules}
+use Rattle.tape.proofs.entries.deliver_entry.Goals as goal
+
+pub returns : goal.returns
+returns c = message_acted _ _ _ c.number4-number.ensures _ c.deliver-said.ensures

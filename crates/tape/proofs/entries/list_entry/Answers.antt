@@ -1,0 +1,8 @@
+-- `tape::entries::list_entry` meets its contract.
+-- Assumes nothing.
+use Rattle.tape.proofs.Plays.{listing_acted}
+use borrow.Author.Rules.{rules}
+use Rattle.tape.proofs.entries.list_entry.Goals as goal
+
+pub returns : goal.returns
+returns c = listing_acted _ _ _ _ c.fill.ensures c.number4-close.ensures _ c.list-said.ensures
