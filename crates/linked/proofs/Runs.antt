@@ -14,7 +14,7 @@ use Rattle.counters.specs.declared.Counters.{Counters}
 use Rattle.counters.specs.Counting.{fresh_counters}
 use Rattle.book.specs.State.{State, lent, Arrival}
 use Rattle.book.specs.Calls.{listed, delivered}
-use Rattle.book.proofs.Promise.{some_lfts, slice}
+use Rattle.book.proofs.Promise.{some_lfts, slice, written}
 use Rattle.upheld.proofs.Touches.{touches_only}
 use Rattle.words.specs.Words.{counter_count, counter_words, row_count, row_words}
 use Rattle.words.proofs.Again.{fresh_known}
@@ -37,29 +37,29 @@ abbrev list_at : ListLfts
 list_at = some_lfts (list.signature).lifetimes
 
 abbrev list_with : Held → Listing → ListArgs list_at
-list_with h l = (slice h.words, (slice h.rows, (slice h.lines, (slice l.symbol, (l.close, tt)))))
+list_with h l = (written h.words, (written h.rows, (slice h.lines, (slice l.symbol, (l.close, tt)))))
 
 abbrev list_then : Held → Listing → ListExit list_at
-list_then h l = (slice h.words, (slice h.rows, (slice h.lines, (slice l.symbol, (l.close, tt)))))
+list_then h l = (written h.words, (written h.rows, (slice h.lines, (slice l.symbol, (l.close, tt)))))
 
 abbrev deliver_at : DeliverLfts
 deliver_at = some_lfts (deliver.signature).lifetimes
 
 abbrev deliver_with : Held → Arrival → DeliverArgs deliver_at
-deliver_with h a = (slice h.words, (slice h.rows, (slice h.lines, (a.number, (slice a.message, tt)))))
+deliver_with h a = (written h.words, (written h.rows, (written h.lines, (a.number, (slice a.message, tt)))))
 
 abbrev deliver_then : Held → Arrival → DeliverExit deliver_at
-deliver_then h a = (slice h.words, (slice h.rows, (slice h.lines, (a.number, (slice a.message, tt)))))
+deliver_then h a = (written h.words, (written h.rows, (written h.lines, (a.number, (slice a.message, tt)))))
 
 abbrev row_at : RowLfts
 row_at = some_lfts (row.signature).lifetimes
 
 -- the last are the words that are lent for the row
 abbrev row_with : Held → List ℕ → List ℕ → RowArgs row_at
-row_with h symbol w = (slice h.words, (slice h.rows, (slice h.lines, (slice symbol, (slice w, tt)))))
+row_with h symbol w = (slice h.words, (slice h.rows, (slice h.lines, (slice symbol, (written w, tt)))))
 
 abbrev row_then : Held → List ℕ → List ℕ → RowExit row_at
-row_then h symbol w = (slice h.words, (slice h.rows, (slice h.lines, (slice symbol, (slice w, tt)))))
+row_then h symbol w = (slice h.words, (slice h.rows, (slice h.lines, (slice symbol, (written w, tt)))))
 
 -- ---- runs
 
@@ -98,8 +98,8 @@ day_there ed rows lines bl qs f =
       t.0,
       record {
         lifetimes = some_lfts (start.signature).lifetimes;
-        before = (slice w, (edition_number ed, tt));
-        after = (slice w, (edition_number ed, tt));
+        before = (written w, (edition_number ed, tt));
+        after = (written w, (edition_number ed, tt));
         given = refl;
         started = sym (fresh_known ed);
         calls = t.1;

@@ -11,7 +11,7 @@ use Rattle.octets.proofs.Bytes.{none_bytes, append_bytes}
 use Rattle.editions.specs.declared.Edition.TheVariants.{NlsPlus}
 use Rattle.counters.specs.Counting.{fresh_counters}
 use Rattle.book.specs.State.{State, with_counters}
-use Rattle.book.proofs.Promise.{some_lfts, slice}
+use Rattle.book.proofs.Promise.{some_lfts, written}
 use Rattle.tape.specs.Entries.{tape_of}
 use Rattle.tape.specs.Playing.{Play, played, held, joined}
 use Rattle.tape.proofs.Tapes.{bytes_behind, split, play_split}
@@ -36,10 +36,10 @@ abbrev reading : Standing → Reading
 reading s = record { counters = s.state.counters; held = s.held; at = s.at; stop = s.stop }
 
 abbrev go_with : Standing → List ℕ → ℕ → GoArgs go_at
-go_with s piece n = (reading s, (slice s.state.rows, (slice s.state.lines, (slice piece, (n, tt)))))
+go_with s piece n = (reading s, (written s.state.rows, (written s.state.lines, (written piece, (n, tt)))))
 
 abbrev go_then : Standing → ℕ → GoExit go_at
-go_then s n = (reading s, (slice s.state.rows, (slice s.state.lines, (slice s.piece, (n, tt)))))
+go_then s n = (reading s, (written s.state.rows, (written s.state.lines, (written s.piece, (n, tt)))))
 
 module _ (rooms : State) (bl : Bytes rooms.lines) where
   abbrev fresh : State
