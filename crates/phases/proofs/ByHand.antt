@@ -2,9 +2,8 @@
 -- document 01's, or our papers' where it leaves them open, and come from no definition, so an order that is wrong in the code and in its
 -- definition alike is found here.
 -- Assumes nothing.
-use Prim.Native.Nat.{ℕ}
 use mathlib.Core.Path.{◌≡◌, refl}
-use mathlib.Core.List.{List, [], ◌∷◌, map}
+use mathlib.Core.List.{[], ◌∷◌, map}
 use mathlib.Core.Bool.{true, false}
 use Rattle.phases.specs.Phases.{phase_of, trading}
 

@@ -2,7 +2,6 @@
 -- Assumes nothing.
 use native.Mathlib.Omega.{arith}
 use Rattle.bounds.specs.Up as Up
-use borrow.Author.Rules.{rules}
 use Rattle.bounds.proofs.up.Goals as goal
 
 pub returns-then-x-lt-GREATEST : goal.returns-then-x-lt-GREATEST

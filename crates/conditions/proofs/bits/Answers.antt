@@ -1,7 +1,6 @@
 -- `conditions::bits` reads the sheet at each level by its table's rule.
 use mathlib.Core.Path.{refl, ◌∙◌}
 use native.Mathlib.Omega.{arith}
-use borrow.Author.Rules.{rules}
 use borrow.Author.Tests.{ne_eqb}
 use Rattle.conditions.specs.Conditions.{level_at}
 use Rattle.conditions.proofs.Table.{in_table}
@@ -25,5 +24,5 @@ returns-in-4 c = simp c.in-4.is (c.entry-in-4.ensures ∙ in_table 4 c.args.code
 
 pub returns-in_default : goal.returns-in_default
 unfolding level_at
-returns-in_default c = let r = c.in_default.in_default-own.rest in 
+returns-in_default c = let r = c.in_default.in_default-own.rest in
     simp (ne_eqb _ 1 r.0.0.0.1, ne_eqb _ 2 r.0.0.1, ne_eqb _ 3 r.0.1, ne_eqb _ 4 r.1) refl

@@ -4,7 +4,6 @@ use mathlib.Core.Bool.{Bool, true, false, not}
 use Prim.Native.Nat.{ℕ, ◌+◌}
 use lib.Dec.{eqb}
 use lib.Bits.{bit_and}
-use borrow.Author.Rules.{rules}
 use Rattle.conditions.specs.declared.Marks.{Marks}
 use Rattle.conditions.specs.Conditions.{bit, on_sheet, may_set_high_low, may_be_last, marks_of}
 use Rattle.conditions.proofs.code_marks.Goals as goal
@@ -27,6 +26,6 @@ read_back false false false = refl
 
 pub returns : goal.returns
 unfolding marks_of
-returns c = let level = c.args.level in 
-    let code = c.args.code in 
+returns c = let level = c.args.level in
+    let code = c.args.code in
     ap marks_in c.bits-found.ensures ∙ read_back (on_sheet level code) (may_set_high_low level code) (may_be_last level code)

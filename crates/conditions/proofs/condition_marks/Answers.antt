@@ -4,7 +4,6 @@ use mathlib.Core.Bool.{◌&&◌}
 use mathlib.Core.List.{List}
 use Prim.Native.Nat.{ℕ}
 use lib.ListN.{get_or}
-use borrow.Author.Rules.{rules}
 use Rattle.conditions.specs.declared.Marks.{Marks}
 use Rattle.conditions.specs.Conditions.{marks_of, condition_marks}
 use Rattle.conditions.proofs.condition_marks.Goals as goal

@@ -1,6 +1,5 @@
 -- `conditions::entry` is the code's digit of the word that it stands in.
 use mathlib.Core.Path.{refl}
-use borrow.Author.Rules.{rules}
 use Rattle.conditions.specs.Conditions.{entry_of}
 use Rattle.conditions.proofs.entry.Goals as goal
 

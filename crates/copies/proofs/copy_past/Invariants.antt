@@ -1,13 +1,10 @@
 -- `copies::copy_past` meets its contract. The loop: what is copied so far is a run.
 -- Assumes nothing.
-use mathlib.Core.Path.{◌≡◌, refl, ap, ◌∙◌}
-use Prim.Native.Nat.{ℕ, ◌-◌, ◌≤◌}
-use native.Mathlib.Omega.{arith}
-use lib.ListN.{length, length-set}
+use mathlib.Core.Path.{◌≡◌}
+use Prim.Native.Nat.{◌-◌, ◌≤◌}
+use lib.ListN.{length}
 use lib.Seq.{sets}
-use borrow.Author.Rules.{rules}
 use Rattle.octets.specs.Run.{part}
-use Rattle.octets.proofs.Turns.{copy_none, copy_next}
 use Rattle.copies.proofs.copy_past.Given as goal
 
 abbrev pub invariant-loop-i : goal.invariant-loop-i

@@ -14,5 +14,5 @@ returns-in-1 c = rw c.in-1.is
 
 pub returns-in_default : goal.returns-in_default
 unfolding edition_named
-returns-in_default c = let r = c.in_default.in_default-own.rest in 
+returns-in_default c = let r = c.in_default.in_default-own.rest in
     simp (ne_eqb _ _ r.0.1, ne_eqb _ _ r.1)

@@ -26,5 +26,5 @@ returns-in-74 c = rw c.in-74.is
 
 pub returns-in_default : goal.returns-in_default
 unfolding kind_of
-returns-in_default c = let r = c.in_default.in_default-own.rest in 
+returns-in_default c = let r = c.in_default.in_default-own.rest in
     simp (ne_eqb _ _ r.0.0.0.0.1, ne_eqb _ _ r.0.0.0.1, ne_eqb _ _ r.0.0.1, ne_eqb _ _ r.0.1, ne_eqb _ _ r.1)

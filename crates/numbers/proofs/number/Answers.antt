@@ -1,7 +1,5 @@
 -- `numbers::number` meets its contract. The loop: the sum is the number of the i bytes read.
 -- Assumes nothing.
-use mathlib.Core.Path.{◌≡◌, ap, ◌∙◌}
-use Prim.Native.Nat.{ℕ, ◌-◌, ◌≤◌}
 use native.Mathlib.Numerals.{add-one}
 use native.Mathlib.Omega.{arith}
 use borrow.Author.Rules.{rules}
@@ -15,7 +13,7 @@ unfolding be part tab
 loop-i-init c = search rules
 
 pub overflow_mul-sum : goal.overflow_mul-sum
-overflow_mul-sum c = let a = c.args in 
+overflow_mul-sum c = let a = c.args in
     omega (
       arith,
       be_fits a.s.now a.at c.loop-i.i (λ i. (c.type_inv.s i).fits)
@@ -23,7 +21,7 @@ overflow_mul-sum c = let a = c.args in
     )
 
 pub overflow_add-sum : goal.overflow_add-sum
-overflow_add-sum c = let a = c.args in 
+overflow_add-sum c = let a = c.args in
     omega (
       arith,
       be_fits a.s.now a.at c.loop-i.i
@@ -31,6 +29,6 @@ overflow_add-sum c = let a = c.args in
     )
 
 pub loop-i-preserved : goal.loop-i-preserved
-loop-i-preserved c = let a = c.args in 
-    let i = c.loop-i.i in 
+loop-i-preserved c = let a = c.args in
+    let i = c.loop-i.i in
     (omega arith, rw (add-one i) (omega (arith, be_part a.s.now a.at i)))

@@ -1,13 +1,9 @@
 -- `numbers::number` meets its contract. The loop: the sum is the number of the i bytes read.
 -- Assumes nothing.
-use mathlib.Core.Path.{◌≡◌, ap, ◌∙◌}
-use Prim.Native.Nat.{ℕ, ◌-◌, ◌≤◌}
-use native.Mathlib.Numerals.{add-one}
-use native.Mathlib.Omega.{arith}
-use borrow.Author.Rules.{rules}
-use Rattle.numbers.proofs.Laws.{be_part, be_fits}
+use mathlib.Core.Path.{◌≡◌}
+use Prim.Native.Nat.{◌-◌, ◌≤◌}
 use Rattle.numbers.specs.Number.{be}
-use Rattle.octets.specs.Run.{tab, part}
+use Rattle.octets.specs.Run.{part}
 use Rattle.numbers.proofs.number.Given as goal
 
 abbrev pub invariant-loop-i : goal.invariant-loop-i

@@ -1,11 +1,8 @@
 -- `texts::inked` meets its contract. The loop: i bytes show, and what shows at the head of the rest comes on top.
 -- Assumes nothing.
-use mathlib.Core.Path.{◌≡◌, sym, ◌∙◌}
+use mathlib.Core.Path.{◌≡◌}
 use Prim.Native.Nat.{◌+◌, ◌-◌, ◌≤◌}
-use native.Mathlib.Omega.{arith}
 use lib.ListN.{length, drop}
-use borrow.Author.Rules.{rules}
-use Rattle.texts.proofs.Laws.{ink_more, ink_stop, ink_end}
 use Rattle.texts.specs.Text as Text
 use Rattle.texts.proofs.inked.Given as goal
 

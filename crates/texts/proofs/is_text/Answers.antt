@@ -1,6 +1,5 @@
 -- `texts::is_text` meets its contract.
 -- Assumes nothing.
-use borrow.Author.Rules.{rules}
 use borrow.Author.Tests.{eq-eqb, ne_eqb}
 use Rattle.texts.specs.Text as Text
 use Rattle.texts.proofs.is_text.Goals as goal

@@ -3,7 +3,6 @@
 use Prim.Native.Nat.{ℕ}
 use mathlib.Core.Path.{◌≡◌, sym, ◌∙◌}
 use mathlib.Core.Bool.{true, false}
-use borrow.Author.Rules.{rules}
 use Rattle.kinds.specs.declared.Kind.{Kind}
 use Rattle.kinds.specs.Kinds.{is_event, makes_new}
 use Rattle.phases.specs.Phases.{phase_of}
@@ -15,9 +14,11 @@ module _ (kind : Kind) (event : ℕ) (c : Counters) {c₁ c₂ : Counters} (used
   by-event : {r : Counters} {phase : ℕ} → is_event kind ≡ true → phase ≡ phase_of event → r ≡ advanced phase c₂ → r ≡ taken_by kind event c
   unfolding taken_by
   by-event is begun result = simp is (rw (result, begun, counted, used))
+
   by-new : {r : Counters} → is_event kind ≡ false → makes_new kind ≡ true → r ≡ one_line_more c₂ → r ≡ taken_by kind event c
   unfolding taken_by
   by-new none new result = simp (none, new) (rw (result, counted, used))
+
   by-none : is_event kind ≡ false → makes_new kind ≡ false → c₂ ≡ taken_by kind event c
   unfolding taken_by
   by-none none old = simp (none, old) (rw (counted, used))

@@ -1,14 +1,10 @@
 -- `octets::moves::move_eights` meets its contract. The loop: what is moved so far is a run.
 -- Assumes nothing.
-use mathlib.Core.Path.{◌≡◌, refl, ap, ◌∙◌}
-use Prim.Native.Nat.{ℕ, ◌+◌, ◌*◌, ◌-◌, ◌≤◌}
-use native.Mathlib.Omega.{arith}
+use mathlib.Core.Path.{◌≡◌}
+use Prim.Native.Nat.{◌*◌, ◌-◌, ◌≤◌}
 use lib.ListN.{length}
-use lib.Seq.{sets, length-sets}
-use borrow.Author.Rules.{rules}
-use Rattle.octets.specs.Run.{part, Bytes}
-use Rattle.octets.specs.Low.{lows}
-use Rattle.octets.proofs.Turns.{copy_none, wide_more}
+use lib.Seq.{sets}
+use Rattle.octets.specs.Run.{part}
 use Rattle.octets.proofs.moves.move_eights.Given as goal
 
 abbrev pub invariant-loop-i : goal.invariant-loop-i

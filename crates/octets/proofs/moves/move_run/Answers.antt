@@ -4,13 +4,12 @@ use mathlib.Core.Path.{◌≡◌, ap, ◌∙◌}
 use Prim.Native.Nat.{ℕ, ◌+◌, ◌-◌, ◌*◌, ◌/◌}
 use native.Mathlib.Omega.{arith}
 use lib.Seq.{sets}
-use borrow.Author.Rules.{rules}
 use Rattle.octets.specs.Run.{part}
 use Rattle.octets.proofs.Turns.{copy_more}
 use Rattle.octets.proofs.moves.move_run.Goals as goal
 
 pub returns : goal.returns
-returns c = let a = c.args in 
+returns c = let a = c.args in
     let f = 8 * (a.n / 8) in
     let n : f + (a.n - f) ≡ a.n = omega arith in
     let k = ap (λ (k : ℕ). sets a.out.now a.to (part a.s.now a.from k)) n in

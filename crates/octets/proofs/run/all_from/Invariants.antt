@@ -1,10 +1,8 @@
 -- `octets::run::all_from` meets its contract. The loop: what is left of the run decides of the whole.
 -- Assumes nothing.
-use mathlib.Core.Path.{◌≡◌, sym, ◌∙◌}
+use mathlib.Core.Path.{◌≡◌}
 use Prim.Native.Nat.{◌-◌}
 use lib.ListN.{length, drop}
-use borrow.Author.Rules.{rules}
-use Rattle.octets.proofs.Laws.{all_more, all_stop, all_end}
 use Rattle.octets.specs.Run.{all}
 use Rattle.octets.proofs.run.all_from.Given as goal
 

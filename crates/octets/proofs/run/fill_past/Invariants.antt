@@ -1,13 +1,9 @@
 -- `octets::run::fill_past` meets its contract. The loop: what is left of the run, stored from i on, makes the whole.
 -- Assumes nothing.
-use mathlib.Core.List.{List}
-use mathlib.Core.Path.{◌≡◌, refl, ap, sym, ◌∙◌}
-use Prim.Native.Nat.{◌<◌, ℕ, ◌-◌, ◌≤◌}
-use native.Mathlib.Omega.{arith}
-use lib.ListN.{length, length-set}
+use mathlib.Core.Path.{◌≡◌}
+use Prim.Native.Nat.{◌-◌, ◌≤◌}
+use lib.ListN.{length}
 use lib.Seq.{sets}
-use borrow.Author.Rules.{rules}
-use Rattle.octets.proofs.Laws.{part_length, part_left, fill_turn, sets_all, tab_end}
 use Rattle.octets.specs.Run.{tab, past, part}
 use Rattle.octets.proofs.run.fill_past.Given as goal
 

@@ -3,13 +3,12 @@
 use Prim.Native.Nat.{◌+◌, ◌≤◌}
 use native.Mathlib.Omega.{arith}
 use lib.ListN.{length}
-use borrow.Author.Rules.{rules}
 use Rattle.octets.specs.Run.{Bytes}
 use Rattle.octets.proofs.Told.{told_all}
 use Rattle.octets.proofs.run.is_all.Goals as goal
 
 pub returns-then-n-le8 : goal.returns-then-n-le8
-returns-then-n-le8 c = let a = c.args in 
+returns-then-n-le8 c = let a = c.args in
     let s : Bytes a.s.now = λ i. (c.type_inv.s i).fits in
     let g : a.from + 4 ≤ length a.s.now = omega arith in
     let h : length a.s.now ≤ a.from + 8 = omega arith in

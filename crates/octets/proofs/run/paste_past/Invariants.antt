@@ -1,14 +1,9 @@
 -- `octets::run::paste_past` meets its contract. The loop: what is left of the run, stored i places further on, makes the whole.
 -- Assumes nothing.
-use mathlib.Core.List.{List}
-use mathlib.Core.Path.{◌≡◌, refl, ap, sym, ◌∙◌}
-use Prim.Native.Nat.{ℕ, ◌+◌, ◌-◌, ◌≤◌}
-use native.Mathlib.Nat.{add-zero}
-use native.Mathlib.Omega.{arith}
-use lib.ListN.{length, drop, length-set, drop_of_length-le}
+use mathlib.Core.Path.{◌≡◌}
+use Prim.Native.Nat.{◌+◌, ◌-◌, ◌≤◌}
+use lib.ListN.{length, drop}
 use lib.Seq.{sets}
-use borrow.Author.Rules.{rules}
-use Rattle.octets.proofs.Laws.{paste_turn}
 use Rattle.octets.proofs.run.paste_past.Given as goal
 
 abbrev pub invariant-loop-i : goal.invariant-loop-i

@@ -1,10 +1,8 @@
 -- `octets::run::same_past` meets its contract. The loop: what is left of the two runs decides whether the whole are the same.
 -- Assumes nothing.
-use mathlib.Core.Path.{◌≡◌, sym, ◌∙◌}
+use mathlib.Core.Path.{◌≡◌}
 use Prim.Native.Nat.{◌-◌}
 use lib.ListN.{length, drop}
-use borrow.Author.Rules.{rules}
-use Rattle.octets.proofs.Laws.{part_left, same_more, same_stop, same_end}
 use Rattle.octets.specs.Run.{tab, past, part, same}
 use Rattle.octets.proofs.run.same_past.Given as goal
 

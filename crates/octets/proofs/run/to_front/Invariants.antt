@@ -1,14 +1,10 @@
 -- `octets::run::to_front` meets its contract. The loop: i bytes stand at the front, and those behind are as they were.
 -- Assumes nothing.
 use Prim.Native.Nat.{◌-◌, ◌≤◌}
-use mathlib.Core.Path.{◌≡◌, refl, ap, ◌∙◌}
-use native.Mathlib.Omega.{arith}
-use lib.ListN.{length, length-set}
+use mathlib.Core.Path.{◌≡◌}
+use lib.ListN.{length}
 use lib.Seq.{sets}
-use borrow.Author.Rules.{rules}
 use Rattle.octets.specs.Run.{part}
-use Rattle.octets.proofs.Laws.{front_turn}
-use Rattle.octets.proofs.Turns.{copy_none}
 use Rattle.octets.proofs.run.to_front.Given as goal
 
 abbrev pub invariant-loop-i : goal.invariant-loop-i

@@ -1,8 +1,5 @@
 -- `octets::wide::put_four` meets its contract.
 -- Assumes nothing.
-use native.Mathlib.Omega.{arith}
-use lib.ListN.{length-set}
-use borrow.Author.Rules.{rules}
 use Rattle.octets.proofs.Low.{put_back}
 use Rattle.octets.proofs.wide.put_four.Goals as goal
 
