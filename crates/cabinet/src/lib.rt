@@ -1,9 +1,8 @@
-// The library as C and Rust link it. Every function takes any counters, any bytes and any slices, and asks nothing of
-// its caller. All but `sorundappa_start`, which answers nothing, and `sorundappa_size`, which tells a size, answer a
-// number of document 01's table. Words that are no book's, because they name no edition, are answered 17 by every call
-// on a book, and nothing changes. A clause `types` says what the types of the parameters say of what came in, for
-// whoever reasons about calls.
-// `include/sorundappa.h` says the same in C.
+// The library that C and Rust link, by way of `cabinet_c`. Every function takes any counters, any bytes and any slices,
+// and asks nothing of its caller. All but `sorundappa_start`, which answers nothing, and `sorundappa_size`, which tells a
+// size, answer a number of document 01's table. Words that are no book's, because they name no edition, are answered 17
+// by every call on a book, and nothing changes. A clause `types` says what the types of the parameters say of what came
+// in, for whoever reasons about calls.
 #![tactic(auto)]
 
 ghost use Rattle.std.specs.Prelude.{◌≡◌};
@@ -44,16 +43,14 @@ fn listing(symbol: [u8; 8], close: u32) -> Listing
 
 // Writes the words of a fresh book of the edition that the number names; of a number that names none, words that are no
 // book's. It is lent no room, and writes no byte of one.
-#[unsafe(no_mangle)]
-pub extern "C" fn sorundappa_start(counters: &mut [u64; words::COUNTERS], edition: u64)
+pub fn sorundappa_start(counters: &mut [u64; words::COUNTERS], edition: u64)
     ensures { counters.new ≡ fresh_words edition }
 {
     words::put_fresh(counters, edition);
 }
 
 // Lists a symbol with its close. Answers 0 or 13 to 17.
-#[unsafe(no_mangle)]
-pub extern "C" fn sorundappa_list(
+pub fn sorundappa_list(
     counters: &mut [u64; words::COUNTERS],
     rows: &mut [u8],
     lines: &[u8],
@@ -81,8 +78,7 @@ pub extern "C" fn sorundappa_list(
 }
 
 // Delivers a message under its number. Answers 0 to 12 or 17.
-#[unsafe(no_mangle)]
-pub extern "C" fn sorundappa_deliver(
+pub fn sorundappa_deliver(
     counters: &mut [u64; words::COUNTERS],
     rows: &mut [u8],
     lines: &mut [u8],
@@ -108,8 +104,7 @@ pub extern "C" fn sorundappa_deliver(
 }
 
 // Reads the row of a symbol. Answers 0, 7 or 17; where not 0, every word is 0.
-#[unsafe(no_mangle)]
-pub extern "C" fn sorundappa_row(
+pub fn sorundappa_row(
     counters: &[u64; words::COUNTERS],
     rows: &[u8],
     lines: &[u8],
@@ -141,12 +136,7 @@ pub extern "C" fn sorundappa_row(
 }
 
 // Reads a message alone, by an edition. Answers 0, 4 or 5; where not 0, every byte of the record is 0.
-#[unsafe(no_mangle)]
-pub extern "C" fn sorundappa_read(
-    edition: u64,
-    message: &[u8],
-    out: &mut [u8; records::RECORD],
-) -> u8
+pub fn sorundappa_read(edition: u64, message: &[u8], out: &mut [u8; records::RECORD]) -> u8
     ensures answer { result ≡ number_of (read_by (edition_named edition) message.now).answer }
     ensures bytes { out.new
         ≡ record_bytes (read_by (edition_named edition) message.now).found }
@@ -174,12 +164,7 @@ fn unwritten(b: &[u8]) -> Answer
 }
 
 // Writes a record's message, by an edition. Answers 0, 5 or 18; where not 0, out stays as it was.
-#[unsafe(no_mangle)]
-pub extern "C" fn sorundappa_write(
-    edition: u64,
-    bytes: &[u8; records::RECORD],
-    out: &mut [u8],
-) -> u8
+pub fn sorundappa_write(edition: u64, bytes: &[u8; records::RECORD], out: &mut [u8]) -> u8
     ensures answer { result
         ≡ number_of (write_answer_by (edition_named edition) (record_of bytes.now) out.old) }
     ensures out { out.new
@@ -199,8 +184,7 @@ pub extern "C" fn sorundappa_write(
 }
 
 // A size that a caller needs, by its place in the list of sizes; 0 past the end of the list.
-#[unsafe(no_mangle)]
-pub extern "C" fn sorundappa_size(which: u64) -> u64
+pub fn sorundappa_size(which: u64) -> u64
     ensures { result ≡ size_of which }
 {
     sizes::size(which)

@@ -10,7 +10,7 @@ pub fn head() {
         .and_then(|l| l.split(": ").nth(1))
         .unwrap_or("unknown");
     println!("machine: {} ({model})", std::env::consts::ARCH);
-    println!("proved:  the archive of crates/cabinet, compiled by the Rattle toolchain at -O3, each function called as C calls it");
+    println!("proved:  the archive of crates/cabinet_c, compiled by the Rattle toolchain at -O3, each function called as C calls it");
     println!("plain:   the crate plain, compiled by rustc at opt-level 3; neither has an index");
     println!("the least of several rounds, the two sides in turn; rooms, records and spaces are cleared first on both sides");
     println!();
