@@ -2,7 +2,6 @@
 -- Assumes nothing.
 use mathlib.Core.Path.{sym, ◌∙◌}
 use Rattle.book.proofs.Steps.{locate_none, locate_there, locate_unsound}
-use borrow.Author.Rules.{rules}
 use Rattle.book.proofs.find_row.Goals as goal
 
 pub returns-in-Nothing : goal.returns-in-Nothing

@@ -5,7 +5,6 @@ use mathlib.Core.Path.{◌≡◌, sym, ◌∙◌}
 use mathlib.Core.Bool.{Bool, true, false, ◌&&◌}
 use borrow.Author.Tests.{le-leb, lt-leb}
 use Rattle.book.proofs.Steps.{list_unsound, list_broken, list_late, list_there, list_new}
-use borrow.Author.Rules.{rules}
 use Rattle.book.proofs.judge_listing.Goals as goal
 
 as_promised : (x y b t : Bool) → x ≡ y → (x && b) ≡ t → (y && b) ≡ t

@@ -3,8 +3,6 @@
 -- a listed symbol is eight bytes, and its close fits four
 use mathlib.Core.Path.{sym, ◌∙◌}
 use Rattle.book.proofs.Steps.{list_refused, list_done}
-use Rattle.rows.specs.Changed.{ListingFits}
-use borrow.Author.Rules.{rules}
 use Rattle.book.proofs.list.Goals as goal
 
 pub returns-then-number-ne0 : goal.returns-then-number-ne0

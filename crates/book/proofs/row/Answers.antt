@@ -2,9 +2,7 @@
 -- Assumes nothing.
 -- what a call lends are bytes
 use mathlib.Core.Path.{sym, ◌∙◌}
-use Rattle.octets.specs.Run.{Bytes}
 use Rattle.book.proofs.Steps.{row_refused, row_there}
-use borrow.Author.Rules.{rules}
 use Rattle.book.proofs.row.Goals as goal
 
 pub returns-then-number-ne0 : goal.returns-then-number-ne0

@@ -7,11 +7,10 @@ use Rattle.sound.specs.Sound.{sound}
 use Rattle.table.proofs.Tables.{number_wanted}
 use Rattle.book.specs.State.{State, lent}
 use Rattle.book.proofs.Steps.{refused_here, taken_here_lem}
-use borrow.Author.Rules.{rules}
 use Rattle.book.proofs.use_number.Goals as goal
 
 pub returns-then-number-ne0 : goal.returns-then-number-ne0
-returns-then-number-ne0 c = 
+returns-then-number-ne0 c =
     let from : State = lent c.args.c c.args.rows.now c.args.lines.now in
     refused_here from c.args.message.now ((number_wanted _ _ _).0 c.requires) _
     c.read-q.ensures _ c.kind_of-kind.ensures _
@@ -24,7 +23,7 @@ overflow_cast-c c = let s = c in
     omega (arith, ((number_wanted safe a.c.wanted a.c.wanted).0 c.requires).greatest)
 
 pub returns : goal.returns
-returns c = 
+returns c =
     let from : State = lent c.args.c c.args.rows.now c.args.lines.now in
     taken_here_lem from c.args.message.now ((number_wanted _ _ _).0 c.requires) _
     c.read-q.ensures _ c.kind_of-kind.ensures _

@@ -3,7 +3,6 @@
 use mathlib.Core.Path.{sym, ◌∙◌}
 use Rattle.cabinet.specs.Crossing.{holding}
 use Rattle.cabinet.proofs.Calls.{deliver_said, deliver_none}
-use borrow.Author.Rules.{rules}
 use Rattle.cabinet.proofs.sorundappa_deliver.Goals as goal
 
 pub returns-in-NoBook-clause-left : goal.returns-in-NoBook-clause-left

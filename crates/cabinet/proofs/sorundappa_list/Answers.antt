@@ -2,12 +2,14 @@
 -- Assumes nothing.
 use mathlib.Core.Path.{sym, ◌∙◌}
 use Rattle.cabinet.proofs.Calls.{list_said, list_none}
-use borrow.Author.Rules.{rules}
 use Rattle.cabinet.proofs.sorundappa_list.Goals as goal
 
 pub returns-in-NoBook : goal.returns-in-NoBook
-returns-in-NoBook c =  record { left = list_none _ (sym c.counters.ensures.counters ∙ c.in-NoBook.is) _ c.told.ensures _; types = record { count = c.counters.ensures.count; fits = c.listing-l.ensures.fits } }
+returns-in-NoBook c = record { left = list_none _ (sym c.counters.ensures.counters ∙ c.in-NoBook.is) _ c.told.ensures _; types = record { count = c.counters.ensures.count; fits = c.listing-l.ensures.fits } }
 
 pub returns-in-Book : goal.returns-in-Book
-returns-in-Book c =  record { left = list_said _ _ (sym c.counters.ensures.counters ∙ c.in-Book.is) c.list-s.result _ _ _ _
-          c.put_counters.ensures c.told-in-Book.ensures _ _ c.listing-l.ensures.made c.list-s.ensures; types = record { count = c.counters.ensures.count; fits = c.listing-l.ensures.fits } }
+returns-in-Book c = record {
+  left = list_said _ _ (sym c.counters.ensures.counters ∙ c.in-Book.is) c.list-s.result _ _ _ _
+      c.put_counters.ensures c.told-in-Book.ensures _ _ c.listing-l.ensures.made c.list-s.ensures;
+  types = record { count = c.counters.ensures.count; fits = c.listing-l.ensures.fits };
+}

@@ -1,15 +1,13 @@
 -- `cabinet::sorundappa_read` meets its contract.
 -- Assumes nothing.
 use mathlib.Core.Path.{ap, sym, ◌∙◌}
-use Rattle.octets.specs.Run.{Bytes}
 use Rattle.answers.specs.Answers.{number_of}
 use Rattle.editions.specs.declared.Named.{Named}
 use Rattle.records.specs.Packed.{record_bytes}
 use Rattle.records.proofs.Stores.{no_bytes}
 use Rattle.cabinet.specs.Crossing.{read_by}
-use borrow.Author.Rules.{rules}
 use Rattle.cabinet.proofs.sorundappa_read.Goals as goal
 
 pub returns-in-Unknown : goal.returns-in-Unknown
-returns-in-Unknown c = let m = c.args.message.now in 
+returns-in-Unknown c = let m = c.args.message.now in
     let e = sym c.in-Unknown.is ∙ c.edition_of.ensures in record { answer = c.told.ensures ∙ ap (λ (n : Named). number_of (read_by n m).answer) e; bytes = sym no_bytes ∙ ap (λ (n : Named). record_bytes (read_by n m).found) e }

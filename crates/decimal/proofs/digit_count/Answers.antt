@@ -1,10 +1,7 @@
 -- `decimal::digit_count` meets its contract. The loop: the digits counted, with those of what is left, are the number's.
 -- Assumes nothing.
-use mathlib.Core.Path.{◌≡◌}
-use Prim.Native.Nat.{◌+◌, ◌≤◌}
 use native.Mathlib.Omega.{arith}
 use Rattle.decimal.proofs.Numbers.{count_small, count_more, count_most}
-use Rattle.decimal.specs.Decimal.{digit_count}
 use Rattle.decimal.proofs.digit_count.Goals as goal
 
 pub loop-y-init : goal.loop-y-init

@@ -2,8 +2,6 @@
 -- Assumes nothing.
 use mathlib.Core.Path.{◌≡◌}
 use Prim.Native.Nat.{◌+◌, ◌≤◌}
-use native.Mathlib.Omega.{arith}
-use Rattle.decimal.proofs.Numbers.{count_small, count_more, count_most}
 use Rattle.decimal.specs.Decimal.{digit_count}
 use Rattle.decimal.proofs.digit_count.Given as goal
 

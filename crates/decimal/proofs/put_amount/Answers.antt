@@ -13,7 +13,7 @@ pub overflow_add-result : goal.overflow_add-result
 overflow_add-result c = omega (arith, short_of c.put-k.ensures.count (omega (arith, c.ranges.n)))
 
 pub returns : goal.returns
-returns c = let a = c.args in 
+returns c = let a = c.args in
     let p = c.put-k in let told = (amount_put a.out.now _ _ _ a.at p.result c.behind-point.result c.behind.result a.n
     p.ensures.bytes p.ensures.count c.behind-point.ensures c.put_byte.ensures c.behind.ensures
     c.put_digits.ensures) in record { bytes = told.0; count = told.1 }

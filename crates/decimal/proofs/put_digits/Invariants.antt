@@ -1,13 +1,10 @@
 -- `decimal::put_digits` meets its contract. The loop: what is left of the number, stored in the first i places, makes the whole.
 -- Assumes nothing.
-use mathlib.Core.Path.{◌≡◌, sym, ◌∙◌}
+use mathlib.Core.Path.{◌≡◌}
 use Prim.Native.Nat.{◌≤◌}
-use native.Mathlib.Omega.{arith}
-use lib.ListN.{length, length-set}
+use lib.ListN.{length}
 use lib.Seq.{sets}
-use Rattle.decimal.proofs.Laws.{digit_turn, far}
 use Rattle.decimal.specs.Decimal.{lowest}
-use borrow.Author.Rules.{rules}
 use Rattle.decimal.proofs.put_digits.Given as goal
 
 abbrev pub invariant-loop-i : goal.invariant-loop-i

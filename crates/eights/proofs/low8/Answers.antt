@@ -1,6 +1,5 @@
 -- `eights::low8` meets its contract.
 -- Assumes nothing.
-use borrow.Author.Rules.{rules}
 use Prim.Native.Nat.{ℕ}
 use mathlib.Core.Path.{ap, ◌∙◌}
 use Rattle.octets.specs.Run.{Bytes}
@@ -10,6 +9,6 @@ use Rattle.numbers.proofs.Trips.{digits_part}
 use Rattle.eights.proofs.low8.Goals as goal
 
 pub returns : goal.returns
-returns c = let a = c.args in 
+returns c = let a = c.args in
     let bytes : Bytes a.s.now = λ i. (c.type_inv.s i).fits in
     c.turned.ensures ∙ ap (λ (x : ℕ). low (digits 8 x)) c.number8.ensures ∙ ap low (digits_part a.s.now a.at 8 bytes)

@@ -1,6 +1,5 @@
 -- `feed::feed` meets its contract.
 -- Assumes nothing.
-use Rattle.std.proofs.Common.{◌≤◌, sym, arith, length-take-le, rules}
 use Rattle.feed.proofs.Laws.{used_fits, fed_is}
 use Rattle.feed.proofs.feed.Goals as goal
 

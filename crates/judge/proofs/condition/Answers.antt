@@ -2,9 +2,8 @@
 -- Assumes nothing.
 use mathlib.Core.Path.{◌∙◌}
 use Rattle.judge.proofs.Runs.{four_bytes}
-use borrow.Author.Rules.{rules}
 use Rattle.judge.proofs.condition.Goals as goal
 
 pub returns : goal.returns
-returns c = let a = c.args in 
+returns c = let a = c.args in
     c.condition_ok.ensures ∙ four_bytes a.b.now a.at

@@ -4,7 +4,6 @@ use Rattle.octets.specs.Run.{tab, part}
 use Rattle.records.specs.Held.{read_by, record_from, new_from}
 use Rattle.records.specs.Packed.{slots, packed, record_of}
 use Rattle.judge.proofs.Asked.{c_rules}
-use borrow.Author.Rules.{rules}
 use Rattle.judge.proofs.kept_c.Goals as goal
 
 pub returns : goal.returns

@@ -4,23 +4,22 @@ use mathlib.Core.Bool.{and-true}
 use Rattle.octets.specs.Run.{tab, part}
 use Rattle.layout.specs.Tables.{kept_by}
 use Rattle.records.specs.Held.{holds, read_by, record_from, sale_from, new_from}
-use Rattle.records.specs.Packed.{slots, packed, record_of, sale_at}
+use Rattle.records.specs.Packed.{slots, packed, record_of}
 use Rattle.packing.specs.Layouts.{layout_j}
-use borrow.Author.Rules.{rules}
 use Rattle.judge.proofs.kept_j.Goals as goal
 
 pub returns : goal.returns
 unfolding record_of read_by record_from sale_from new_from holds packed slots part tab kept_by layout_j
 returns c = simp (
-      c.summary_price_ok-3.ensures,
-      c.number4-4.ensures,
-      c.summary_price_ok-2.ensures,
-      c.number4-3.ensures,
-      c.summary_price_ok.ensures,
-      c.number4-2.ensures,
-      c.class_ok.ensures,
-      c.text.ensures,
-      c.time_ok.ensures,
-      c.number4.ensures,
-      and-true,
-    )
+  c.summary_price_ok-3.ensures,
+  c.number4-4.ensures,
+  c.summary_price_ok-2.ensures,
+  c.number4-3.ensures,
+  c.summary_price_ok.ensures,
+  c.number4-2.ensures,
+  c.class_ok.ensures,
+  c.text.ensures,
+  c.time_ok.ensures,
+  c.number4.ensures,
+  and-true,
+)

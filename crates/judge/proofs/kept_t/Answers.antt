@@ -2,7 +2,6 @@
 -- Assumes nothing.
 use mathlib.Core.Path.{◌∙◌}
 use Rattle.judge.proofs.Asked.{t_rules}
-use borrow.Author.Rules.{rules}
 use Rattle.judge.proofs.kept_t.Goals as goal
 
 pub returns : goal.returns

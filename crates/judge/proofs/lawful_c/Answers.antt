@@ -1,7 +1,6 @@
 -- `judge::lawful_c` meets its contract.
 -- Assumes nothing.
 use Rattle.judge.proofs.Runs.{c_said}
-use borrow.Author.Rules.{rules}
 use Rattle.judge.proofs.lawful_c.Goals as goal
 
 pub returns : goal.returns

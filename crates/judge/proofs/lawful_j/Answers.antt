@@ -1,7 +1,6 @@
 -- `judge::lawful_j` meets its contract.
 -- Assumes nothing.
 use Rattle.judge.proofs.Runs.{j_said}
-use borrow.Author.Rules.{rules}
 use Rattle.judge.proofs.lawful_j.Goals as goal
 
 pub returns : goal.returns

@@ -1,7 +1,6 @@
 -- `judge::lawful_s` meets its contract.
 -- Assumes nothing.
 use Rattle.judge.proofs.Runs.{s_said}
-use borrow.Author.Rules.{rules}
 use Rattle.judge.proofs.lawful_s.Goals as goal
 
 pub returns : goal.returns

@@ -1,7 +1,6 @@
 -- `judge::lawful_t` meets its contract.
 -- Assumes nothing.
 use Rattle.judge.proofs.Runs.{t_said}
-use borrow.Author.Rules.{rules}
 use Rattle.judge.proofs.lawful_t.Goals as goal
 
 pub returns : goal.returns

@@ -1,15 +1,9 @@
 -- `judge::none` meets its contract. The loop: whether the bytes so far are all zero.
 -- Assumes nothing.
-use mathlib.Core.Path.{◌≡◌, ap, ◌∙◌}
-use mathlib.Core.Bool.{Bool, ◌&&◌}
-use Prim.Native.Nat.{ℕ, ◌+◌, ◌-◌, ◌≤◌}
-use native.Mathlib.Omega.{arith}
-use lib.Dec.{eqb}
-use lib.ListN.{get_or}
-use borrow.Author.Rules.{rules}
+use mathlib.Core.Path.{◌≡◌}
+use Prim.Native.Nat.{◌-◌, ◌≤◌}
 use Rattle.octets.specs.Run.{part}
 use Rattle.octets.specs.Run.{all}
-use Rattle.judge.proofs.Runs.{none_yet, none_turn}
 use Rattle.judge.proofs.none.Given as goal
 
 abbrev pub invariant-loop-i : goal.invariant-loop-i

@@ -1,7 +1,6 @@
 -- `judge::sale_ok` meets its contract.
 -- Assumes nothing.
 use Rattle.judge.specs.Judged.{sale_rules}
-use borrow.Author.Rules.{rules}
 use Rattle.judge.proofs.sale_ok.Goals as goal
 
 pub returns : goal.returns

@@ -7,11 +7,11 @@ use borrow.Author.Rules.{rules}
 use Rattle.keys.proofs.is_match.Goals as goal
 
 pub returns : goal.returns
-returns c = 
+returns c =
     let asked-symbol : length c.args.r.symbol ≡ 8 = search rules in
     let asked-condition : length c.args.r.sale.condition ≡ 4 = search rules in
     let line-symbol : length c.args.l.symbol ≡ 8 = search rules in
     let line-condition : length c.args.l.condition ≡ 4 = search rules in
-    let a = c.args in 
+    let a = c.args in
     rw (c.same_at-2.ensures, c.same_at.ensures)
     (match_is a.r a.l asked-symbol asked-condition line-symbol line-condition)

@@ -1,18 +1,13 @@
 -- `lines::find` meets its contract.
 -- Assumes nothing.
-use mathlib.Core.Path.{◌≡◌, ap, sym, ◌∙◌}
-use mathlib.Core.List.{List}
-use Prim.Native.Nat.{ℕ, ◌-◌, ◌*◌, ◌≤◌}
-use native.Mathlib.Nat.{sub-zero}
-use native.Mathlib.Omega.{arith}
+use mathlib.Core.Path.{◌≡◌}
+use Prim.Native.Nat.{◌-◌, ◌*◌, ◌≤◌}
 use lib.ListN.{length, drop}
-use Rattle.octets.specs.Run.{tab, part, same}
-use Rattle.octets.proofs.Laws.{part_left, left, same_more, same_stop, same_end}
-use Rattle.cells.proofs.Laws.{find_on, find_off, find_end}
+use Rattle.octets.specs.Run.{tab, same}
+use Rattle.octets.proofs.Laws.{left}
 use Rattle.cells.specs.Search.{first}
 use Rattle.lines.specs.Cell.{line_cell, key_length}
-use Rattle.lines.specs.Lines.{line_from, line_at, line_limit, used_lines, bears, line_with}
-use borrow.Author.Rules.{rules}
+use Rattle.lines.specs.Lines.{line_at, line_limit, used_lines, bears, line_with}
 use Rattle.lines.proofs.find.Given as goal
 
 abbrev pub invariant-bytes : goal.invariant-bytes

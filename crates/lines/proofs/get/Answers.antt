@@ -3,7 +3,6 @@
 use mathlib.Core.Path.{sym, ◌∙◌}
 use Rattle.cells.proofs.Laws.{inside, outside}
 use Rattle.lines.specs.Lines.{line_in}
-use borrow.Author.Rules.{rules}
 use Rattle.lines.proofs.get.Goals as goal
 
 pub returns-then-i-limit : goal.returns-then-i-limit

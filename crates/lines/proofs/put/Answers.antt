@@ -3,7 +3,6 @@
 use mathlib.Core.Path.{sym, ◌∙◌}
 use Rattle.cells.proofs.Laws.{inside, outside}
 use Rattle.lines.specs.Lines.{with_line}
-use borrow.Author.Rules.{rules}
 use Rattle.lines.proofs.put.Goals as goal
 
 pub returns-then-i-limit : goal.returns-then-i-limit

@@ -1,7 +1,6 @@
 -- `lines::store` meets its contract.
 -- Assumes nothing.
 use mathlib.Core.Path.{◌≡◌}
-use native.Mathlib.Omega.{arith}
 use lib.ListN.{length}
 use Rattle.lines.specs.Cell.{key_length}
 use Rattle.lines.proofs.Laws.{line_stored}
@@ -9,7 +8,7 @@ use borrow.Author.Rules.{rules}
 use Rattle.lines.proofs.store.Goals as goal
 
 pub returns : goal.returns
-returns c = 
+returns c =
     let key-long : length c.args.l.key ≡ key_length = search rules in
     let symbol-long : length c.args.l.symbol ≡ 8 = search rules in
     let condition-long : length c.args.l.condition ≡ 4 = search rules in

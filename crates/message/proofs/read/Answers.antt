@@ -6,15 +6,14 @@ use Rattle.records.specs.Packed.{record_of}
 use Rattle.records.proofs.Again.{record_again}
 use Rattle.message.specs.Reader.{read_of}
 use Rattle.message.proofs.Fitting.{read_fits}
-use borrow.Author.Rules.{rules}
 use Rattle.message.proofs.read.Goals as goal
 
 pub returns : goal.returns
-returns c = 
+returns c =
     let entered : Bytes c.args.message.now = λ i. (c.type_inv.message i).fits in
-    let a = c.args in 
+    let a = c.args in
     let m = a.message.now in
-    let q = c.read_packed-a.ensures in 
+    let q = c.read_packed-a.ensures in
     let g = read_fits a.edition m entered in
     let f = c.«record».ensures ∙ ap record_of q.bytes ∙ record_again (read_of a.edition m).found g in
     rw (q.answer, f)

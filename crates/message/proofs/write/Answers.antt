@@ -10,7 +10,7 @@ use borrow.Author.Rules.{rules}
 use Rattle.message.proofs.write.Goals as goal
 
 pub returns : goal.returns
-returns c = 
+returns c =
     let entered : RecordFits c.args.r = record {
       time = search rules;
       symbol = search rules;
@@ -21,7 +21,7 @@ returns c =
       close = search rules;
       consolidated = search rules;
     } in
-    let r = c.args.r in 
-    let out = c.args.out.now in 
+    let r = c.args.r in
+    let out = c.args.out.now in
     let e = ap record_of c.put_record.ensures ∙ record_again r entered in
     let w = c.write_packed.ensures in record { answer = w.answer ∙ ap (λ (q : Record). write_answer c.args.edition q out) e; left = w.left ∙ ap (λ (q : Record). write_out c.args.edition q out) e }

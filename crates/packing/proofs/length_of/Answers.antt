@@ -5,7 +5,6 @@ use Rattle.kinds.specs.declared.Kind.{Kind}
 use Rattle.kinds.proofs.Laws.{one_of_two}
 use Rattle.packing.specs.Layouts.{layout_s, layout_t, layout_c, layout_j}
 use Rattle.packing.specs.Packing.{length_of}
-use borrow.Author.Rules.{rules}
 use Rattle.packing.proofs.length_of.Goals as goal
 
 pub returns-in-Event : goal.returns-in-Event

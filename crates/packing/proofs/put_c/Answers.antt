@@ -1,7 +1,6 @@
 -- `packing::put_c` meets its contract.
 -- Assumes nothing.
 use Rattle.packing.proofs.Moves.{c_put}
-use borrow.Author.Rules.{rules}
 use Rattle.packing.proofs.put_c.Goals as goal
 
 pub returns : goal.returns

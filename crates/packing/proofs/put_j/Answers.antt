@@ -1,7 +1,6 @@
 -- `packing::put_j` meets its contract.
 -- Assumes nothing.
 use Rattle.packing.proofs.Moves.{j_put}
-use borrow.Author.Rules.{rules}
 use Rattle.packing.proofs.put_j.Goals as goal
 
 pub returns : goal.returns

@@ -1,7 +1,6 @@
 -- `packing::put_s` meets its contract.
 -- Assumes nothing.
 use Rattle.packing.proofs.Moves.{s_put}
-use borrow.Author.Rules.{rules}
 use Rattle.packing.proofs.put_s.Goals as goal
 
 pub returns : goal.returns

@@ -1,7 +1,6 @@
 -- `packing::put_t` meets its contract.
 -- Assumes nothing.
 use Rattle.packing.proofs.Moves.{t_put}
-use borrow.Author.Rules.{rules}
 use Rattle.packing.proofs.put_t.Goals as goal
 
 pub returns : goal.returns

@@ -7,12 +7,11 @@ use Rattle.records.specs.Held.{read_by, filled_in}
 use Rattle.records.specs.Packed.{record_bytes}
 use Rattle.records.proofs.Stores.{no_bytes}
 use Rattle.packing.specs.Layouts.{layout_t, layout_of}
-use borrow.Author.Rules.{rules}
 use Rattle.packing.proofs.unpack.Goals as goal
 
 pub returns-in-Trade : goal.returns-in-Trade
 unfolding read_by layout_t
-returns-in-Trade c = let a = c.args in 
+returns-in-Trade c = let a = c.args in
     let m = a.m.now in
     c.unpack_t.ensures
     ∙ ap

@@ -1,7 +1,6 @@
 -- `packing::unpack_c` meets its contract.
 -- Assumes nothing.
 use Rattle.packing.proofs.Moves.{c_filled}
-use borrow.Author.Rules.{rules}
 use Rattle.packing.proofs.unpack_c.Goals as goal
 
 pub returns : goal.returns

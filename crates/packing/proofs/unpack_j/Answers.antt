@@ -1,7 +1,6 @@
 -- `packing::unpack_j` meets its contract.
 -- Assumes nothing.
 use Rattle.packing.proofs.Moves.{j_filled}
-use borrow.Author.Rules.{rules}
 use Rattle.packing.proofs.unpack_j.Goals as goal
 
 pub returns : goal.returns

@@ -1,7 +1,6 @@
 -- `packing::unpack_s` meets its contract.
 -- Assumes nothing.
 use Rattle.packing.proofs.Moves.{s_filled}
-use borrow.Author.Rules.{rules}
 use Rattle.packing.proofs.unpack_s.Goals as goal
 
 pub returns : goal.returns

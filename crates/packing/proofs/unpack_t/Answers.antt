@@ -1,7 +1,6 @@
 -- `packing::unpack_t` meets its contract.
 -- Assumes nothing.
 use Rattle.packing.proofs.Moves.{t_filled}
-use borrow.Author.Rules.{rules}
 use Rattle.packing.proofs.unpack_t.Goals as goal
 
 pub returns : goal.returns

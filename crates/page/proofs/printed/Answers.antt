@@ -3,7 +3,6 @@
 use Prim.Native.Nat.{min}
 use mathlib.Core.Path.{ap, sym, ◌∙◌}
 use Rattle.rows.proofs.Slabs.{used_rows_length}
-use borrow.Author.Rules.{rules}
 use Rattle.page.proofs.printed.Goals as goal
 
 pub returns : goal.returns

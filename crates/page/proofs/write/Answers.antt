@@ -9,28 +9,28 @@ use Rattle.book.specs.State.{State, lent}
 use Rattle.page.specs.Page.{line_of}
 use Rattle.page.specs.Printable.{Printable}
 use Rattle.page.proofs.Fitting.{ending_good}
-use Rattle.page.proofs.Laws.{rows_most, Written, none_yet, within, next_turn, all_turns}
+use Rattle.page.proofs.Laws.{rows_most, none_yet, next_turn, all_turns}
 use Rattle.page.proofs.write.Goals as goal
 
 pub overflow_add-end : goal.overflow_add-end
-overflow_add-end c = 
+overflow_add-end c =
     let few : c.printed-end.result ≤ 256 = rows_most c.args.rows.now c.args.c.rows c.printed-end.result c.printed-end.ensures in
     search (rules, few)
 
 pub loop-k-init : goal.loop-k-init
-loop-k-init c = 
+loop-k-init c =
     let lent_to : State = lent c.args.c c.args.rows.now c.args.lines.now in
     (omega arith, none_yet lent_to c.args.ending c.args.out.now)
 
 pub overflow_add-k : goal.overflow_add-k
-overflow_add-k c = 
+overflow_add-k c =
     let few : c.printed-end.result ≤ 256 = rows_most c.args.rows.now c.args.c.rows c.printed-end.result c.printed-end.ensures in
     search (rules, few)
 
 pub loop-k-preserved : goal.loop-k-preserved
-loop-k-preserved c = 
+loop-k-preserved c =
     let lent_to : State = lent c.args.c c.args.rows.now c.args.lines.now in
-    let l = c.line-n in 
+    let l = c.line-n in
     let long : l.result ≡ length (line_of lent_to c.args.ending c.loop-k.k) = l.ensures.count in (
       omega arith,
       next_turn lent_to c.args.ending c.args.out.now
@@ -39,7 +39,7 @@ loop-k-preserved c =
     )
 
 pub returns : goal.returns
-returns c = 
+returns c =
     let entered : Printable (lent c.args.c c.args.rows.now c.args.lines.now) c.args.ending = record {
       rows = λ i. (c.type_inv.rows i).fits;
       lines = λ i. (c.type_inv.lines i).fits;

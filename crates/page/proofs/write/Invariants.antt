@@ -1,15 +1,8 @@
 -- `page::write` meets its contract. After k lines these stand in `out`, as far as there is room.
 -- Assumes nothing.
 use Prim.Native.Nat.{◌≤◌, ◌-◌}
-use mathlib.Core.Path.{◌≡◌, refl}
-use native.Mathlib.Omega.{arith}
-use borrow.Author.Rules.{rules}
-use lib.ListN.{length}
-use Rattle.book.specs.State.{State, lent}
-use Rattle.page.specs.Page.{line_of}
-use Rattle.page.specs.Printable.{Printable}
-use Rattle.page.proofs.Fitting.{ending_good}
-use Rattle.page.proofs.Laws.{rows_most, Written, none_yet, within, next_turn, all_turns}
+use Rattle.book.specs.State.{lent}
+use Rattle.page.proofs.Laws.{Written}
 use Rattle.page.proofs.write.Given as goal
 
 abbrev pub invariant-loop-k : goal.invariant-loop-k

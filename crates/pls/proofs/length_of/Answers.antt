@@ -4,7 +4,6 @@ use mathlib.Core.Path.{◌≡◌, refl, ap, sym}
 use Rattle.kinds.specs.declared.Kind.{Kind}
 use Rattle.kinds.proofs.Laws.{one_of_two}
 use Rattle.pls.specs.Layouts.{layout_s, layout_t, layout_c, length_of}
-use borrow.Author.Rules.{rules}
 use Rattle.pls.proofs.length_of.Goals as goal
 
 pub returns-in-Event : goal.returns-in-Event

@@ -12,7 +12,6 @@ use Rattle.records.specs.Packed.{record_length, record_bytes}
 use Rattle.records.proofs.Stores.{no_bytes}
 use Rattle.pls.specs.Layouts.{layout_s, layout_t, layout_c, layout_of, length_of}
 use Rattle.pls.proofs.Laws.{takes}
-use borrow.Author.Rules.{rules}
 use Rattle.plsread.proofs.unpack_whole.Goals as goal
 
 pub unpack_s-requires : goal.unpack_s-requires
@@ -30,13 +29,13 @@ unpack_c-requires c = (refl, takes (length c.args.m.now) c.in-Correction.is c.re
 
 pub returns-in-Trade : goal.returns-in-Trade
 unfolding read_by ready_by layout_t
-returns-in-Trade c = let a = c.args in 
+returns-in-Trade c = let a = c.args in
     let m = a.m.now in
-    let keys = c.in-Trade.in-Trade-own.keys2 in 
+    let keys = c.in-Trade.in-Trade-own.keys2 in
     let e = one_of_two (λ (k : Kind). read_by (layout_t 84) m ≡ filled_in (layout_of k) m) 1 2 a.kind keys refl refl in record { bytes = c.unpack_t.ensures.bytes ∙ ap record_bytes e; ready = c.unpack_t.ensures.ready ∙ one_of_two (λ (k : Kind). ready_by (layout_t 84) m ≡ ready_in (layout_of k) m) 1 2 a.kind keys refl refl }
 
 pub returns-in-Summary : goal.returns-in-Summary
-returns-in-Summary c = let a = c.args in 
+returns-in-Summary c = let a = c.args in
     let m = a.m.now in
     let zeros = replicate {A = ℕ} record_length 0 in
     let keys = c.in-Summary.in-Summary-own.keys4 in record { bytes = one_of_two (λ (k : Kind). zeros ≡ record_bytes (filled_in (layout_of k) m)) 4 5 a.kind keys (sym no_bytes) (sym no_bytes); ready = one_of_two (λ (k : Kind). true ≡ ready_in (layout_of k) m) 4 5 a.kind keys refl refl }

@@ -1,9 +1,6 @@
 -- `plswrite::put_s` meets its contract.
 -- Assumes nothing.
-use mathlib.Core.Path.{refl}
-use native.Mathlib.Omega.{arith}
 use Rattle.plswrite.proofs.Laid.{s_put}
-use borrow.Author.Rules.{rules}
 use Rattle.plswrite.proofs.put_s.Goals as goal
 
 pub returns : goal.returns

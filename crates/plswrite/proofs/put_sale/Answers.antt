@@ -1,13 +1,10 @@
 -- `plswrite::put_sale` meets its contract.
 -- Assumes nothing.
-use mathlib.Core.Path.{refl}
-use native.Mathlib.Omega.{arith}
 use Rattle.plswrite.proofs.Laid.{sale_shown_lem}
-use borrow.Author.Rules.{rules}
 use Rattle.plswrite.proofs.put_sale.Goals as goal
 
 pub returns : goal.returns
-returns c = let a = c.args in 
+returns c = let a = c.args in
     rw (
       c.copy_four.ensures,
       c.put_number-2.ensures,

@@ -1,6 +1,6 @@
 -- `plswrite::store_whole` meets its contract.
 -- Assumes nothing.
-use mathlib.Core.Path.{◌≡◌, refl, ap, sym, ◌∙◌}
+use mathlib.Core.Path.{◌≡◌, refl, ap, ◌∙◌}
 use Prim.Native.Nat.{◌≤◌}
 use lib.ListN.{length}
 use lib.Seq.{sets}
@@ -10,7 +10,6 @@ use Rattle.records.specs.Held.{write_by, bytes_in}
 use Rattle.records.specs.Packed.{record_of}
 use Rattle.pls.specs.Layouts.{layout_s, layout_t, layout_c, layout_of, length_of}
 use Rattle.pls.proofs.Laws.{takes}
-use borrow.Author.Rules.{rules}
 use Rattle.plswrite.proofs.store_whole.Goals as goal
 
 pub put_s-requires : goal.put_s-requires
@@ -28,7 +27,7 @@ put_c-requires c = takes (length c.args.out.now) c.in-Correction.is c.requires
 
 pub returns-in-Trade : goal.returns-in-Trade
 unfolding write_by layout_t
-returns-in-Trade c = let a = c.args in 
+returns-in-Trade c = let a = c.args in
     let r = record_of a.b.now in
     c.put_t.ensures
     ∙ ap

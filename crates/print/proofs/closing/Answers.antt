@@ -1,11 +1,7 @@
 -- `print::closing` meets its contract.
 -- Assumes nothing.
 -- what a call brings fits its types
-use mathlib.Core.Path.{refl}
-use Prim.Native.Nat.{◌^◌, ◌<◌}
-use lib.Dec.{lit≤}
-use Rattle.print.proofs.Laws.{reach, from_start, closing_put}
-use borrow.Author.Rules.{rules}
+use Rattle.print.proofs.Laws.{from_start, closing_put}
 use Rattle.print.proofs.closing.Goals as goal
 
 pub returns : goal.returns

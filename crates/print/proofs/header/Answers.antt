@@ -1,10 +1,9 @@
 -- `print::header` meets its contract.
 -- Assumes nothing.
 use mathlib.Core.Path.{refl}
-use borrow.Author.Rules.{rules}
 use Rattle.print.specs.Texts.{header_text}
 use Rattle.print.proofs.header.Goals as goal
 
 pub returns : goal.returns
 unfolding header_text
-returns c =  record { bytes = c.paste.ensures; count = refl }
+returns c = record { bytes = c.paste.ensures; count = refl }

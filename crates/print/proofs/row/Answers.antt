@@ -1,12 +1,7 @@
 -- `print::row` meets its contract.
 -- Assumes nothing.
 -- the row that a call brings fits its types
-use lib.Dec.{lit≤}
-use Rattle.print.specs.Fits.{RowFits}
-use Rattle.show.proofs.Fitting.{net_good}
-use Rattle.print.proofs.Fitting.{price_good, reported_good}
-use Rattle.print.proofs.Laws.{reach, from_start, row_put}
-use borrow.Author.Rules.{rules}
+use Rattle.print.proofs.Laws.{from_start, row_put}
 use Rattle.print.proofs.row.Goals as goal
 
 pub returns : goal.returns

@@ -1,12 +1,10 @@
 -- `print::stops` meets its contract.
 -- Assumes nothing.
 -- what a call brings fits its type
-use Prim.Native.Nat.{◌^◌, ◌<◌}
 use Rattle.print.specs.Texts.{stop_text}
 use Rattle.print.proofs.Laws.{byte, then, from_start}
-use borrow.Author.Rules.{rules}
 use Rattle.print.proofs.stops.Goals as goal
 
 pub returns : goal.returns
 unfolding stop_text
-returns c =  let told = (from_start (then c.put_named-a.ensures (byte c.put_byte.ensures))) in record { bytes = told.0; count = told.1 }
+returns c = let told = (from_start (then c.put_named-a.ensures (byte c.put_byte.ensures))) in record { bytes = told.0; count = told.1 }

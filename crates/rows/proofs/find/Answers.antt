@@ -2,21 +2,19 @@
 -- Assumes nothing.
 use mathlib.Core.Path.{◌≡◌, ap, sym, ◌∙◌}
 use lib.Dec.{eqb}
-use Prim.Native.Nat.{ℕ, ◌-◌, ◌*◌, ◌≤◌}
+use Prim.Native.Nat.{ℕ, ◌-◌, ◌*◌}
 use native.Mathlib.Nat.{sub-zero}
 use native.Mathlib.Omega.{arith}
 use lib.ListN.{length, get_or}
 use mir.Syntax.{w8}
 use mir.Val.{Fits}
-use Rattle.octets.specs.Run.{tab, part, Bytes}
+use Rattle.octets.specs.Run.{part, Bytes}
 use Rattle.eights.specs.Low.{low}
 use Rattle.eights.proofs.Low.{Named, named_same}
 use Rattle.cells.proofs.Laws.{find_on, find_off, find_end}
-use Rattle.cells.specs.Search.{first}
 use mathlib.Core.List.{List}
 use Rattle.rows.specs.Cell.{row_cell}
-use Rattle.rows.specs.declared.Listing.{Listing}
-use Rattle.rows.specs.Rows.{listing_from, row_from, row_at, row_limit, used_rows, used_sheet, is_of, listing_of}
+use Rattle.rows.specs.Rows.{listing_from, row_from, used_rows, is_of}
 use Rattle.rows.proofs.Laws.{tab_map}
 use borrow.Author.Tests.{eq-eqb, ne_eqb}
 use borrow.Author.Rules.{rules}
@@ -39,12 +37,12 @@ here m symbol name i b h = sym (named_same m symbol (i * row_cell) name b h)
 
 pub loop-i-init : goal.loop-i-init
 unfolding used_rows
-loop-i-init c = let e = c.lesser-n.ensures in 
-    let f = c.limit.ensures in 
+loop-i-init c = let e = c.lesser-n.ensures in
+    let f = c.limit.ensures in
     (omega arith, omega (arith, e, f), λ s h. rw (tab_map, sub-zero, e, f))
 
 pub returns-then-name_at-name : goal.returns-then-name_at-name
-returns-then-name_at-name c = 
+returns-then-name_at-name c =
     let symbol-long : length c.args.symbol ≡ 8 = search rules in
     let symbol-byte : (i : ℕ) → Fits w8 (get_or c.args.symbol i 0) = (λ i. search rules) in
     let known : Known = record {
@@ -54,7 +52,7 @@ returns-then-name_at-name c =
       bytes = λ i. (c.type_inv.rows i).fits;
       named = (symbol-long, λ i. (symbol-byte i).fits, c.low8-name.ensures);
     } in
-    let l = c.loop-i in 
+    let l = c.loop-i in
     let k = known in
     let read : c.name_at.result ≡ low (part k.rows (l.i * row_cell) 8) = c.name_at.ensures in
     sym (find_on (is_of k.symbol) (listing_in k.rows) l.i _ c.loop-i-test.true
@@ -62,7 +60,7 @@ returns-then-name_at-name c =
     ∙ eq-eqb _ _ c.if-name_at-name.true)) ∙ l.invariant.2 k.symbol k.named
 
 pub loop-i-preserved : goal.loop-i-preserved
-loop-i-preserved c = 
+loop-i-preserved c =
     let symbol-long : length c.args.symbol ≡ 8 = search rules in
     let symbol-byte : (i : ℕ) → Fits w8 (get_or c.args.symbol i 0) = (λ i. search rules) in
     let known : Known = record {
@@ -72,7 +70,7 @@ loop-i-preserved c =
       bytes = λ i. (c.type_inv.rows i).fits;
       named = (symbol-long, λ i. (symbol-byte i).fits, c.low8-name.ensures);
     } in
-    let l = c.loop-i in 
+    let l = c.loop-i in
     let k = known in (
       omega arith,
       l.invariant.1,
@@ -83,7 +81,7 @@ loop-i-preserved c =
     )
 
 pub returns : goal.returns
-returns c = 
+returns c =
     let symbol-long : length c.args.symbol ≡ 8 = search rules in
     let symbol-byte : (i : ℕ) → Fits w8 (get_or c.args.symbol i 0) = (λ i. search rules) in
     let known : Known = record {
@@ -93,6 +91,6 @@ returns c =
       bytes = λ i. (c.type_inv.rows i).fits;
       named = (symbol-long, λ i. (symbol-byte i).fits, c.low8-name.ensures);
     } in
-    let l = c.loop-i in 
+    let l = c.loop-i in
     let k = known in
     sym (find_end (is_of k.symbol) (listing_in k.rows) l.i _ c.loop-i-test.false) ∙ l.invariant.2 k.symbol k.named

@@ -1,25 +1,14 @@
 -- `rows::find` meets its contract.
 -- Assumes nothing.
-use mathlib.Core.Path.{◌≡◌, ap, sym, ◌∙◌}
-use lib.Dec.{eqb}
-use Prim.Native.Nat.{ℕ, ◌-◌, ◌*◌, ◌≤◌}
-use native.Mathlib.Nat.{sub-zero}
-use native.Mathlib.Omega.{arith}
-use lib.ListN.{length, get_or}
-use mir.Syntax.{w8}
-use mir.Val.{Fits}
-use Rattle.octets.specs.Run.{tab, part, Bytes}
-use Rattle.eights.specs.Low.{low}
-use Rattle.eights.proofs.Low.{Named, named_same}
-use Rattle.cells.proofs.Laws.{find_on, find_off, find_end}
+use mathlib.Core.Path.{◌≡◌}
+use Prim.Native.Nat.{ℕ, ◌-◌, ◌≤◌}
+use lib.ListN.{length}
+use Rattle.octets.specs.Run.{tab}
+use Rattle.eights.proofs.Low.{Named}
 use Rattle.cells.specs.Search.{first}
 use mathlib.Core.List.{List}
-use Rattle.rows.specs.Cell.{row_cell}
 use Rattle.rows.specs.declared.Listing.{Listing}
-use Rattle.rows.specs.Rows.{listing_from, row_from, row_at, row_limit, used_rows, used_sheet, is_of, listing_of}
-use Rattle.rows.proofs.Laws.{tab_map}
-use borrow.Author.Tests.{eq-eqb, ne_eqb}
-use borrow.Author.Rules.{rules}
+use Rattle.rows.specs.Rows.{row_at, row_limit, used_sheet, is_of, listing_of}
 use Rattle.rows.proofs.find.Given as goal
 
 abbrev pub listing_in : List ℕ → ℕ → Listing

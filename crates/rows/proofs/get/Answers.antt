@@ -3,7 +3,6 @@
 use mathlib.Core.Path.{sym, ◌∙◌}
 use Rattle.cells.proofs.Laws.{inside, outside}
 use Rattle.rows.specs.Rows.{row_in}
-use borrow.Author.Rules.{rules}
 use Rattle.rows.proofs.get.Goals as goal
 
 pub returns-then-i-limit : goal.returns-then-i-limit

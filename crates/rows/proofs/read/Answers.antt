@@ -2,7 +2,6 @@
 -- Assumes nothing.
 use mathlib.Core.Path.{refl}
 use Rattle.rows.specs.Rows.{row_from}
-use borrow.Author.Rules.{rules}
 use Rattle.rows.proofs.read.Goals as goal
 
 pub returns : goal.returns

@@ -3,7 +3,6 @@
 use mathlib.Core.Path.{refl, sym, ◌∙◌}
 use borrow.Author.Tests.{ne_eqb, eq-eqb}
 use Rattle.rows.specs.Rows.{reported_at}
-use borrow.Author.Rules.{rules}
 use Rattle.rows.proofs.reported_at.Goals as goal
 
 pub returns-then-byte-eq1 : goal.returns-then-byte-eq1

@@ -6,7 +6,6 @@ use Rattle.cells.proofs.Laws.{inside, outside}
 use Rattle.rows.proofs.Laws.{summary_stored}
 use Rattle.rows.specs.Cell.{row_cell}
 use Rattle.rows.specs.Rows.{in_row}
-use borrow.Author.Rules.{rules}
 use Rattle.rows.proofs.summarise.Goals as goal
 
 pub returns-then-i-limit : goal.returns-then-i-limit

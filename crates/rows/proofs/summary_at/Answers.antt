@@ -3,16 +3,15 @@
 use mathlib.Core.Path.{refl, sym, ◌∙◌}
 use borrow.Author.Tests.{ne_eqb, eq-eqb}
 use Rattle.rows.specs.Rows.{summary_at}
-use borrow.Author.Rules.{rules}
 use Rattle.rows.proofs.summary_at.Goals as goal
 
 pub returns-then-byte-eq1 : goal.returns-then-byte-eq1
 unfolding summary_at
 returns-then-byte-eq1 c = simp (
-      eq-eqb _ _ (sym c.byte.ensures ∙ c.if-byte-eq1.true),
-      c.number4-low.ensures,
-      c.number4-high.ensures,
-    ) refl
+  eq-eqb _ _ (sym c.byte.ensures ∙ c.if-byte-eq1.true),
+  c.number4-low.ensures,
+  c.number4-high.ensures,
+) refl
 
 pub returns-else-byte-eq1 : goal.returns-else-byte-eq1
 unfolding summary_at

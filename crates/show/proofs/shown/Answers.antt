@@ -1,7 +1,6 @@
 -- `show::shown` meets its contract.
 -- Assumes nothing.
 use Rattle.show.specs.Showing.{shown_of}
-use borrow.Author.Rules.{rules}
 use Rattle.show.proofs.shown.Goals as goal
 
 pub returns : goal.returns

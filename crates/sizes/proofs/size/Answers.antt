@@ -7,7 +7,6 @@ use Rattle.records.specs.Packed.{packed}
 use Rattle.words.specs.Words.{counter_words}
 use Rattle.sizes.specs.Sizes.{size_of}
 use Rattle.sizes.proofs.Sizes.{longest_is, size_type}
-use borrow.Author.Rules.{rules}
 use Rattle.sizes.proofs.size.Goals as goal
 
 up : (n k : ℕ) → k ≤ n → (n ≡ k → ⊥) → k + 1 ≤ n
@@ -46,9 +45,9 @@ unfolding size_of
 returns-in-7 c = rw c.in-7.is
 
 pub returns-in_default : goal.returns-in_default
-returns-in_default c = 
-    let past : 8 ≤ c.args.which = let w = c.args.which in 
-    let r6 = c.in_default.in_default-own.rest.0 in 
+returns-in_default c =
+    let past : 8 ≤ c.args.which = let w = c.args.which in
+    let r6 = c.in_default.in_default-own.rest.0 in
     let r5 = r6.0 in
     let r4 = r5.0 in
     let r3 = r4.0 in

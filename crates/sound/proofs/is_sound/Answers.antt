@@ -2,7 +2,6 @@
 -- Assumes nothing.
 use borrow.Author.Tests.{lt-leb, le-leb}
 use Rattle.sound.specs.Sound.{sound}
-use borrow.Author.Rules.{rules}
 use Rattle.sound.proofs.is_sound.Goals as goal
 
 pub returns-then-c-lt1 : goal.returns-then-c-lt1

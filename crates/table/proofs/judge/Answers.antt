@@ -5,9 +5,8 @@ use mathlib.Core.Bool.{true}
 use borrow.Author.Tests.{eq-eqb, ne_eqb}
 use lib.Dec.{eqb}
 use Rattle.answers.specs.Answers.{number_of}
-use Rattle.table.specs.Working.{due_by, judged_by}
+use Rattle.table.specs.Working.{judged_by}
 use Rattle.table.proofs.Laws.{due_not, due_event, due_listed}
-use borrow.Author.Rules.{rules}
 use Rattle.table.proofs.judge.Goals as goal
 
 pub returns-then-number-ne0 : goal.returns-then-number-ne0
@@ -16,7 +15,7 @@ returns-then-number-ne0 c = simp (ne_eqb _ _ (λ e. c.if-number-ne0.true (c.numb
 
 pub returns-then-is_event : goal.returns-then-is_event
 unfolding judged_by
-returns-then-is_event c = 
+returns-then-is_event c =
     let read : eqb (number_of c.args.q.answer) 0 ≡ true = eq-eqb _ _ (sym c.number.ensures ∙ c.if-number-ne0.false) in
     simp read
     (c.plainly-then-is_event.ensures
@@ -25,7 +24,7 @@ returns-then-is_event c =
 
 pub returns-then-is_due : goal.returns-then-is_due
 unfolding judged_by
-returns-then-is_due c = 
+returns-then-is_due c =
     let read : eqb (number_of c.args.q.answer) 0 ≡ true = eq-eqb _ _ (sym c.number.ensures ∙ c.if-number-ne0.false) in
     simp read
     (c.judge_listed.ensures
@@ -34,6 +33,6 @@ returns-then-is_due c =
 
 pub returns : goal.returns
 unfolding judged_by
-returns c = 
+returns c =
     let read : eqb (number_of c.args.q.answer) 0 ≡ true = eq-eqb _ _ (sym c.number.ensures ∙ c.if-number-ne0.false) in
     simp read (c.plainly-2.ensures ∙ sym (due_not _ _ _ (sym c.is_due.ensures ∙ c.if-is_due.false)))

@@ -3,18 +3,17 @@
 use mathlib.Core.Path.{ap, sym, ◌∙◌}
 use Rattle.table.specs.Table.{ledger_in}
 use Rattle.table.specs.Working.{on_row, listed_at, listed_by}
-use borrow.Author.Rules.{rules}
 use Rattle.table.proofs.judge_listed.Goals as goal
 
 pub returns-in-Nothing : goal.returns-in-Nothing
 unfolding listed_by
-returns-in-Nothing c = let a = c.args in 
+returns-in-Nothing c = let a = c.args in
     c.plainly.ensures ∙ sym (ap (listed_at (ledger_in a.lines.now a.used) a.kind a.r)
     (sym c.find.ensures ∙ c.in-Nothing.is))
 
 pub returns-in-At : goal.returns-in-At
 unfolding listed_by
-returns-in-At c = let a = c.args in 
+returns-in-At c = let a = c.args in
     ap (on_row _) c.judge_trade-traded.ensures
     ∙ sym (ap (listed_at (ledger_in a.lines.now a.used) a.kind a.r)
     (sym c.find.ensures ∙ c.in-At.is))

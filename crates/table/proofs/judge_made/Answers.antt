@@ -9,11 +9,10 @@ use Rattle.lines.specs.Lines.{used_lines, line_with}
 use Rattle.keys.specs.Keys.{new_key}
 use Rattle.table.specs.Working.{made_by}
 use Rattle.table.proofs.Laws.{found_for, made_none, made_found}
-use borrow.Author.Rules.{rules}
 use Rattle.table.proofs.judge_made.Goals as goal
 
 pub returns-then-limit-used : goal.returns-then-limit-used
-returns-then-limit-used c = 
+returns-then-limit-used c =
     let makes : makes_new c.args.kind ≡ true = sym c.makes_new.ensures ∙ c.if-makes_new.true in
     let made : (f : Found) → c.find.result ≡ f
     → line_with (new_key c.args.kind c.args.r) (used_lines c.args.lines.now c.args.used) ≡ f = (λ f e. found_for _ _ _ _ _ c.find.ensures c.new_key.ensures e) in
@@ -22,7 +21,7 @@ returns-then-limit-used c =
     (le-leb _ _ (rw c.limit.ensures at c.if-limit-used.true))
 
 pub returns-else-limit-used : goal.returns-else-limit-used
-returns-else-limit-used c = 
+returns-else-limit-used c =
     let makes : makes_new c.args.kind ≡ true = sym c.makes_new.ensures ∙ c.if-makes_new.true in
     let made : (f : Found) → c.find.result ≡ f
     → line_with (new_key c.args.kind c.args.r) (used_lines c.args.lines.now c.args.used) ≡ f = (λ f e. found_for _ _ _ _ _ c.find.ensures c.new_key.ensures e) in
@@ -31,7 +30,7 @@ returns-else-limit-used c =
     (lt-leb _ _ (rw c.limit.ensures at c.if-limit-used.false))
 
 pub returns-in-At : goal.returns-in-At
-returns-in-At c = 
+returns-in-At c =
     let makes : makes_new c.args.kind ≡ true = sym c.makes_new.ensures ∙ c.if-makes_new.true in
     let made : (f : Found) → c.find.result ≡ f
     → line_with (new_key c.args.kind c.args.r) (used_lines c.args.lines.now c.args.used) ≡ f = (λ f e. found_for _ _ _ _ _ c.find.ensures c.new_key.ensures e) in

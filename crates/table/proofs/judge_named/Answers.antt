@@ -7,19 +7,18 @@ use Rattle.lines.specs.Lines.{used_lines, line_with}
 use Rattle.keys.specs.Keys.{old_key}
 use Rattle.table.specs.Working.{named_at, named_by}
 use Rattle.table.proofs.Laws.{found_for, named_dead, named_live}
-use borrow.Author.Rules.{rules}
 use Rattle.table.proofs.judge_named.Goals as goal
 
 pub returns-in-Nothing : goal.returns-in-Nothing
 unfolding named_by
-returns-in-Nothing c = 
+returns-in-Nothing c =
     let named : (f : Found) → c.find.result ≡ f
     → line_with (old_key c.args.r) (used_lines c.args.lines.now c.args.used) ≡ f = (λ f e. found_for _ _ _ _ _ c.find.ensures c.old_key.ensures e) in
     let a = c.args in
     c.plainly.ensures ∙ sym (ap (named_at a.r (used_lines a.lines.now a.used)) (named _ c.in-Nothing.is))
 
 pub returns-then-is_match : goal.returns-then-is_match
-returns-then-is_match c = 
+returns-then-is_match c =
     let named : (f : Found) → c.find.result ≡ f
     → line_with (old_key c.args.r) (used_lines c.args.lines.now c.args.used) ≡ f = (λ f e. found_for _ _ _ _ _ c.find.ensures c.old_key.ensures e) in
     let a = c.args in
@@ -27,7 +26,7 @@ returns-then-is_match c =
     c.if-l.true true (sym c.if-is_match.true ∙ c.is_match.ensures))
 
 pub returns-else-is_match : goal.returns-else-is_match
-returns-else-is_match c = 
+returns-else-is_match c =
     let named : (f : Found) → c.find.result ≡ f
     → line_with (old_key c.args.r) (used_lines c.args.lines.now c.args.used) ≡ f = (λ f e. found_for _ _ _ _ _ c.find.ensures c.old_key.ensures e) in
     let a = c.args in
@@ -36,7 +35,7 @@ returns-else-is_match c =
     c.if-l.true false (sym c.if-is_match.false ∙ c.is_match.ensures))
 
 pub returns-else-l : goal.returns-else-l
-returns-else-l c = 
+returns-else-l c =
     let named : (f : Found) → c.find.result ≡ f
     → line_with (old_key c.args.r) (used_lines c.args.lines.now c.args.used) ≡ f = (λ f e. found_for _ _ _ _ _ c.find.ensures c.old_key.ensures e) in
     let a = c.args in

@@ -7,18 +7,17 @@ use lib.Dec.{eqb, ltb}
 use borrow.Author.Tests.{lt-ltb, le-ltb}
 use Rattle.counters.specs.Counting.{last_number}
 use Rattle.table.specs.Table.{number_table}
-use borrow.Author.Rules.{rules}
 use Rattle.table.proofs.judge_number.Goals as goal
 
 pub returns-then-number : goal.returns-then-number
 unfolding number_table
-returns-then-number c = let n = c.args.number in 
+returns-then-number c = let n = c.args.number in
     let outside : (eqb n 0 || ltb last_number n) ≡ true = c.if-number.true in
     simp outside refl
 
 pub returns-then-number-wanted : goal.returns-then-number-wanted
 unfolding number_table
-returns-then-number-wanted c = let a = c.args in 
+returns-then-number-wanted c = let a = c.args in
     let below : a.number < a.wanted = c.if-number-wanted.true in
     simp (c.if-number.false, lt-ltb _ _ below) refl
 

@@ -3,7 +3,6 @@
 use mathlib.Core.Path.{ap, sym, ◌∙◌}
 use Rattle.table.specs.Working.{plainly, trade_by}
 use Rattle.table.proofs.Laws.{refused_there, done_there}
-use borrow.Author.Rules.{rules}
 use Rattle.table.proofs.judge_trade.Goals as goal
 
 pub returns-then-number-ne0 : goal.returns-then-number-ne0

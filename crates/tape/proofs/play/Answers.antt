@@ -1,15 +1,12 @@
 -- `tape::play` meets its contract. The loop: what was played so far, and then the play of what is left, is the whole play.
 -- Assumes nothing.
-use mathlib.Core.Path.{◌≡◌, refl, sym, ◌∙◌}
+use mathlib.Core.Path.{◌≡◌, sym, ◌∙◌}
 use Prim.Native.Nat.{ℕ, ◌+◌, ◌-◌, ◌≤◌}
 use native.Mathlib.Omega.{arith}
 use lib.ListN.{length, drop}
-use Rattle.octets.specs.Run.{Bytes}
 use Rattle.tape.specs.Entries.{head_of}
 use Rattle.tape.specs.declared.entries.Head.TheVariants.{Whole}
-use Rattle.book.specs.State.{lent}
-use Rattle.tape.specs.Playing.{played, further}
-use Rattle.tape.proofs.Plays.{further_none, standing_at, standing_length, play_returns, play_turn}
+use Rattle.tape.proofs.Plays.{standing_at, standing_length, play_returns, play_turn}
 use borrow.Author.Rules.{rules}
 use Rattle.tape.proofs.play.Goals as goal
 
@@ -18,21 +15,21 @@ returns-in-Stops c = play_returns _ _ _ _ c.loop-stop.invariant.1 _
     (sym c.head_at-head.ensures ∙ c.in-Stops.is)
 
 pub overflow_add-end : goal.overflow_add-end
-overflow_add-end c = 
+overflow_add-end c =
     let size : ℕ = c.in-Whole.n in
     let found : head_of (drop c.loop-stop.at c.args.part.now) ≡ Whole size = sym c.head_at-head.ensures ∙ c.in-Whole.is in
     let within : (11 ≤ size) × (c.loop-stop.at + size ≤ length c.args.part.now) = standing_at _ _ _ c.loop-stop.invariant.0 found in
     search (rules, within)
 
 pub slice_bounds-play_entry-end : goal.slice_bounds-play_entry-end
-slice_bounds-play_entry-end c = 
+slice_bounds-play_entry-end c =
     let size : ℕ = c.in-Whole.n in
     let found : head_of (drop c.loop-stop.at c.args.part.now) ≡ Whole size = sym c.head_at-head.ensures ∙ c.in-Whole.is in
     let within : (11 ≤ size) × (c.loop-stop.at + size ≤ length c.args.part.now) = standing_at _ _ _ c.loop-stop.invariant.0 found in
     search (rules, within)
 
 pub play_entry-counters-requires : goal.play_entry-counters-requires
-play_entry-counters-requires c = 
+play_entry-counters-requires c =
     let size : ℕ = c.in-Whole.n in
     let found : head_of (drop c.loop-stop.at c.args.part.now) ≡ Whole size = sym c.head_at-head.ensures ∙ c.in-Whole.is in
     let within : (11 ≤ size) × (c.loop-stop.at + size ≤ length c.args.part.now) = standing_at _ _ _ c.loop-stop.invariant.0 found in
@@ -41,14 +38,14 @@ play_entry-counters-requires c =
     omega arith
 
 pub loop-stop-smaller : goal.loop-stop-smaller
-loop-stop-smaller c = 
+loop-stop-smaller c =
     let size : ℕ = c.in-Whole.n in
     let found : head_of (drop c.loop-stop.at c.args.part.now) ≡ Whole size = sym c.head_at-head.ensures ∙ c.in-Whole.is in
     let within : (11 ≤ size) × (c.loop-stop.at + size ≤ length c.args.part.now) = standing_at _ _ _ c.loop-stop.invariant.0 found in
     omega (arith, within)
 
 pub loop-stop-preserved : goal.loop-stop-preserved
-loop-stop-preserved c = 
+loop-stop-preserved c =
     let size : ℕ = c.in-Whole.n in
     let found : head_of (drop c.loop-stop.at c.args.part.now) ≡ Whole size = sym c.head_at-head.ensures ∙ c.in-Whole.is in
     let within : (11 ≤ size) × (c.loop-stop.at + size ≤ length c.args.part.now) = standing_at _ _ _ c.loop-stop.invariant.0 found in

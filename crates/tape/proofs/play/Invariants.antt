@@ -1,16 +1,10 @@
 -- `tape::play` meets its contract. The loop: what was played so far, and then the play of what is left, is the whole play.
 -- Assumes nothing.
-use mathlib.Core.Path.{◌≡◌, refl, sym, ◌∙◌}
-use Prim.Native.Nat.{ℕ, ◌+◌, ◌-◌, ◌≤◌}
-use native.Mathlib.Omega.{arith}
+use mathlib.Core.Path.{◌≡◌}
+use Prim.Native.Nat.{◌-◌, ◌≤◌}
 use lib.ListN.{length, drop}
-use Rattle.octets.specs.Run.{Bytes}
-use Rattle.tape.specs.Entries.{head_of}
-use Rattle.tape.specs.declared.entries.Head.TheVariants.{Whole}
 use Rattle.book.specs.State.{lent}
 use Rattle.tape.specs.Playing.{played, further}
-use Rattle.tape.proofs.Plays.{further_none, standing_at, standing_length, play_returns, play_turn}
-use borrow.Author.Rules.{rules}
 use Rattle.tape.proofs.play.Given as goal
 
 abbrev pub invariant-loop-stop : goal.invariant-loop-stop

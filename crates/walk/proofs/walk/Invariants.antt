@@ -1,20 +1,13 @@
 -- `walk::walk` meets its contract. The loop: what is left of the lines, with the figures so far, makes the whole.
 -- Assumes nothing.
-use mathlib.Core.Path.{◌≡◌, sym, ◌∙◌}
+use mathlib.Core.Path.{◌≡◌}
 use mathlib.Core.List.{List}
 use Prim.Native.Nat.{ℕ, ◌-◌, ◌*◌, ◌≤◌}
-use native.Mathlib.Nat.{sub-zero}
-use native.Mathlib.Omega.{arith}
-use lib.ListN.{length, get_or}
-use mir.Syntax.{w8}
-use mir.Val.{Fits}
-use Rattle.octets.specs.Run.{tab, part, Bytes}
-use Rattle.lines.specs.Cell.{line_cell}
+use lib.ListN.{length}
+use Rattle.octets.specs.Run.{tab}
 use Rattle.lines.specs.Lines.{line_at, line_limit, used_lines}
 use Rattle.eights.proofs.Low.{Named}
 use Rattle.walk.specs.Walking.{fold, tally, figures_of}
-use Rattle.walk.proofs.Laws.{fold_step, fold_end, counts_number, tally_counted, tally_other}
-use borrow.Author.Rules.{rules}
 use Rattle.walk.proofs.walk.Given as goal
 
 abbrev pub invariant-loop-i : goal.invariant-loop-i

@@ -5,12 +5,14 @@ use native.Mathlib.Omega.{arith}
 use Rattle.figures.specs.declared.Figures.{Figures}
 use Rattle.figures.specs.Figures.{sold}
 use Rattle.walk.proofs.Laws.{dealt_read}
-use borrow.Author.Rules.{rules}
 use Rattle.walk.proofs.with_line.Goals as goal
 
 pub returns : goal.returns
 unfolding sold
 returns c = let v = ap (λ (r : Figures). r.volume) c.with_sale.ensures in
-    let n = ap (λ (r : Figures). r.count) c.with_sale.ensures in record { value = dealt_read c.args.lines.now c.args.t _ c.args.at _ _ _ _ _ c.fill.ensures c.number4-price.ensures
+    let n = ap (λ (r : Figures). r.count) c.with_sale.ensures in record {
+      value = dealt_read c.args.lines.now c.args.t _ c.args.at _ _ _ _ _ c.fill.ensures c.number4-price.ensures
           c.number4-size.ensures c.number4-place.ensures c.condition_marks.ensures
-          c.with_sale.ensures; volume_bound_2 = omega (arith, v, n, c.number4-size.type_inv) }
+          c.with_sale.ensures;
+      volume_bound_2 = omega (arith, v, n, c.number4-size.type_inv);
+    }

@@ -2,7 +2,6 @@
 -- Assumes nothing.
 use mathlib.Core.Path.{refl}
 use Rattle.figures.specs.Figures.{sold}
-use borrow.Author.Rules.{rules}
 use Rattle.walk.proofs.with_sale.Goals as goal
 
 pub returns : goal.returns

@@ -2,11 +2,10 @@
 -- Assumes nothing.
 use Prim.Native.Nat.{ℕ}
 use mathlib.Core.Path.{◌≡◌, ap}
-use mathlib.Core.List.{List, [], ◌∷◌}
+use mathlib.Core.List.{[], ◌∷◌}
 use Rattle.counters.specs.declared.Counters.{Counters}
 use Rattle.editions.specs.Editions.{edition_number}
 use Rattle.words.specs.Words.{counter_words}
-use borrow.Author.Rules.{rules}
 use Rattle.words.proofs.put_counters.Goals as goal
 
 -- the five counters and the edition's number are the words

@@ -1,20 +1,15 @@
 -- `words::put_row` meets its contract.
 -- Assumes nothing.
 use mathlib.Core.Path.{◌≡◌}
-use Prim.Native.Nat.{ℕ}
-use lib.ListN.{length, get_or}
-use mir.Syntax.{w8}
-use mir.Val.{Fits}
+use lib.ListN.{length}
 use Rattle.octets.proofs.Trips.{whole}
 use Rattle.words.specs.Words as W
-use Rattle.words.specs.Fits.{RowFits}
-use Rattle.show.proofs.Fitting.{net_good}
 use borrow.Author.Rules.{rules}
 use Rattle.words.proofs.put_row.Goals as goal
 
 pub returns : goal.returns
 unfolding W.row_words
-returns c = 
+returns c =
     let symbol-long : length c.args.r.symbol ≡ 8 = search rules in
     simp (
       c.reported_word.ensures,

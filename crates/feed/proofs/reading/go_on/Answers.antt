@@ -1,7 +1,6 @@
 -- `feed::reading::go_on` meets its contract.
 -- Assumes nothing.
 use Rattle.feed.proofs.Laws.{gone_is}
-use Rattle.std.proofs.Common.{rules}
 use Rattle.feed.proofs.reading.go_on.Goals as goal
 
 pub returns-clause-stands : goal.returns-clause-stands

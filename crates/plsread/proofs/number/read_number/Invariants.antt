@@ -1,17 +1,10 @@
 -- `plsread::number::read_number` meets its contract. The loop: the number so far, with the digits that are left, is what the field spells.
 -- Assumes nothing.
-use mathlib.Core.Path.{◌≡◌, sym, ap, ◌∙◌}
-use Prim.Native.Nat.{ℕ, ◌-◌, ◌^◌, ◌≤◌, ◌<◌}
-use native.Mathlib.Nat.{one-le-pow}
-use native.Mathlib.Omega.{arith}
-use lib.Dec.{lit<}
-use lib.ListN.{length, drop, get_or}
+use mathlib.Core.Path.{◌≡◌}
+use Prim.Native.Nat.{◌-◌, ◌^◌, ◌≤◌, ◌<◌}
+use lib.ListN.{length, drop}
 use Rattle.decimal.specs.Decimal.{worth_after, worth}
-use Rattle.digits.specs.Field.{blanks, rest, are_digits}
-use Rattle.plsread.proofs.Spelt.{a_digit, blanks_most, digit_more, worth_more, digit_stop, digits_end, worth_end}
-use Rattle.plsread.proofs.Spelt.{room_more, below_more}
-use Rattle.plsread.proofs.Spelt.{number_broken, number_short, number_whole}
-use borrow.Author.Rules.{rules}
+use Rattle.digits.specs.Field.{rest, are_digits}
 use Rattle.plsread.proofs.number.read_number.Given as goal
 
 abbrev pub invariant-loop-i : goal.invariant-loop-i

@@ -2,11 +2,8 @@
 -- Assumes nothing.
 use mathlib.Core.Path.{◌≡◌}
 use Prim.Native.Nat.{◌+◌, ◌-◌}
-use native.Mathlib.Omega.{arith}
 use lib.ListN.{length, drop}
 use Rattle.digits.specs.Field.{blanks}
-use Rattle.plsread.proofs.Spelt.{blanks_more, blanks_stop, blanks_end}
-use borrow.Author.Rules.{rules}
 use Rattle.plsread.proofs.number.spaces.Given as goal
 
 abbrev pub invariant-loop-i : goal.invariant-loop-i

@@ -1,7 +1,6 @@
 -- `plswrite::number::put_each` meets its contract. The loop: the digits that are to be stored, with those that are, make the whole.
 -- Assumes nothing.
-use native.Mathlib.Omega.{arith}
-use Rattle.plswrite.proofs.Shown.{Low, low_first, low_turn, low_end}
+use Rattle.plswrite.proofs.Shown.{Low}
 use Rattle.plswrite.proofs.number.put_each.Given as goal
 
 abbrev pub invariant-loop-i : goal.invariant-loop-i

@@ -1,8 +1,5 @@
 -- `plswrite::number::put_four` meets its contract.
 -- Assumes nothing.
-use native.Mathlib.Omega.{arith}
-use lib.ListN.{length-set}
-use borrow.Author.Rules.{rules}
 use Rattle.plswrite.proofs.Shown.{four_low}
 use Rattle.plswrite.proofs.number.put_four.Goals as goal
 

@@ -1,9 +1,6 @@
 -- `plswrite::number::put_low` meets its contract. The loop: the digits that are to be stored, with those that are, make the whole.
 -- Assumes nothing.
-use mathlib.Core.Path.{◌∙◌}
-use native.Mathlib.Omega.{arith}
-use borrow.Author.Rules.{rules}
-use Rattle.plswrite.proofs.Shown.{Low, low_first, low_four}
+use Rattle.plswrite.proofs.Shown.{Low}
 use Rattle.plswrite.proofs.number.put_low.Given as goal
 
 abbrev pub invariant-loop-i : goal.invariant-loop-i

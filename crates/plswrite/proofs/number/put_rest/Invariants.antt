@@ -1,9 +1,6 @@
 -- `plswrite::number::put_rest` meets its contract. The loop: the digits of what is left, stored before those that are, make the whole.
 -- Assumes nothing.
-use Prim.Native.Nat.{◌≤◌, ◌<◌}
-use native.Mathlib.Omega.{arith}
-use lib.ListN.{length-set}
-use Rattle.plswrite.proofs.Shown.{Rest, rest_first, rest_place, rest_places, rest_two, rest_end, rest_last}
+use Rattle.plswrite.proofs.Shown.{Rest}
 use Rattle.plswrite.proofs.number.put_rest.Given as goal
 
 abbrev pub invariant-loop-y : goal.invariant-loop-y

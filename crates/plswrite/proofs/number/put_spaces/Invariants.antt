@@ -1,11 +1,9 @@
 -- `plswrite::number::put_spaces` meets its contract. The loop: what is stored so far is a run of spaces.
 -- Assumes nothing.
-use mathlib.Core.Path.{◌≡◌, refl, ap, ◌∙◌}
-use Prim.Native.Nat.{ℕ, ◌-◌, ◌≤◌}
-use native.Mathlib.Omega.{arith}
-use lib.ListN.{length, replicate, length-set}
+use mathlib.Core.Path.{◌≡◌}
+use Prim.Native.Nat.{◌-◌, ◌≤◌}
+use lib.ListN.{length, replicate}
 use lib.Seq.{sets}
-use Rattle.plswrite.proofs.Shown.{space_turn}
 use Rattle.plswrite.proofs.number.put_spaces.Given as goal
 
 abbrev pub invariant-loop-i : goal.invariant-loop-i

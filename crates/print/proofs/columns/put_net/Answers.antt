@@ -7,15 +7,14 @@ use native.Mathlib.Omega.{arith}
 use Rattle.show.specs.declared.Net.{Net}
 use Rattle.print.specs.Texts.{net_text}
 use Rattle.print.proofs.Laws.{byte, then, retold, net_figure}
-use borrow.Author.Rules.{rules}
 use Rattle.print.proofs.columns.put_net.Goals as goal
 
 pub overflow_add-result-in-Amount : goal.overflow_add-result-in-Amount
-overflow_add-result-in-Amount c = let p = c.put_signed in 
+overflow_add-result-in-Amount c = let p = c.put_signed in
     let f = net_figure (c.args.at + 1) p.result c.in-Amount.x (omega arith) (p.ensures.bytes, p.ensures.count) in
     omega (arith, f.behind, f.near, c.requires)
 
 pub returns-in-Amount : goal.returns-in-Amount
-returns-in-Amount c = let p = c.put_signed in 
+returns-in-Amount c = let p = c.put_signed in
     let f = net_figure (c.args.at + 1) p.result c.in-Amount.x (omega arith) (p.ensures.bytes, p.ensures.count) in
     retold 40 (omega arith) (ap (λ (n : Net). 32 ∷ net_text n) (sym c.in-Amount.is)) (then (byte c.put_byte.ensures) f)

@@ -8,7 +8,6 @@ use Rattle.figures.specs.declared.Price.{Price}
 use Rattle.decimal.proofs.Amount.{amount_short}
 use Rattle.print.specs.Texts.{price_text}
 use Rattle.print.proofs.Laws.{byte, then, retold, figure}
-use borrow.Author.Rules.{rules}
 use Rattle.print.proofs.columns.put_price.Goals as goal
 
 pub overflow_add-result-in-Of : goal.overflow_add-result-in-Of

@@ -1,7 +1,6 @@
 -- `print::columns::put_prices` meets its contract.
 -- Assumes nothing.
 use Rattle.print.proofs.Laws.{then}
-use borrow.Author.Rules.{rules}
 use Rattle.print.proofs.columns.put_prices.Goals as goal
 
 pub returns : goal.returns

@@ -2,7 +2,6 @@
 -- Assumes nothing.
 use mathlib.Core.Path.{sym, ◌∙◌}
 use Rattle.records.proofs.Again.{packed_letter, packed_fits}
-use borrow.Author.Rules.{rules}
 use Rattle.records.proofs.packed.letter.Goals as goal
 
 pub returns : goal.returns

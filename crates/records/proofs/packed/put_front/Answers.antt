@@ -7,7 +7,7 @@ use borrow.Author.Rules.{rules}
 use Rattle.records.proofs.packed.put_front.Goals as goal
 
 pub returns : goal.returns
-returns c = 
+returns c =
     let symbol-long : length c.args.r.symbol ≡ 8 = search rules in
     rw (
       c.put_byte-4.ensures,

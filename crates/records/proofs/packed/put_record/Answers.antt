@@ -8,7 +8,7 @@ use borrow.Author.Rules.{rules}
 use Rattle.records.proofs.packed.put_record.Goals as goal
 
 pub returns : goal.returns
-returns c = 
+returns c =
     let entered : RecordFits c.args.r = record {
       time = search rules;
       symbol = search rules;

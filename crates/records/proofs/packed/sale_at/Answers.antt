@@ -1,6 +1,5 @@
 -- `records::packed::sale_at` meets its contract.
 -- Assumes nothing.
-use borrow.Author.Rules.{rules}
 use Rattle.records.specs.Held.{sale_from}
 use Rattle.records.specs.Packed as W
 use Rattle.records.proofs.packed.sale_at.Goals as goal

@@ -1,7 +1,6 @@
 -- `tape::entries::deliver_entry` meets its contract.
 -- Assumes nothing.
 use Rattle.tape.proofs.Plays.{message_acted}
-use borrow.Author.Rules.{rules}
 use Rattle.tape.proofs.entries.deliver_entry.Goals as goal
 
 pub returns : goal.returns

@@ -1,7 +1,6 @@
 -- `tape::entries::list_entry` meets its contract.
 -- Assumes nothing.
 use Rattle.tape.proofs.Plays.{listing_acted}
-use borrow.Author.Rules.{rules}
 use Rattle.tape.proofs.entries.list_entry.Goals as goal
 
 pub returns : goal.returns

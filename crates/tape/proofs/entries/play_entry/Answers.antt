@@ -1,7 +1,6 @@
 -- `tape::entries::play_entry` meets its contract.
 -- Assumes nothing.
 use Rattle.tape.proofs.Plays.{listing_played, message_played}
-use borrow.Author.Rules.{rules}
 use Rattle.tape.proofs.entries.play_entry.Goals as goal
 
 pub returns-then-byte-eq-LISTING : goal.returns-then-byte-eq-LISTING
