@@ -4,7 +4,7 @@ ghost use Rattle.page.specs.Printable.{wall_longest};
 
 use bounds::lesser;
 use feed::reading::Reading;
-use libc::STDOUT_FILENO;
+use std::io::{Result, Write};
 
 // The longest wall of the program's rows: the columns' names, a line for each row, the closing line and the last one.
 const LONGEST: usize = 46 + crate::rooms::ROWS * 130 + 83 + 35;
@@ -16,16 +16,16 @@ fn space() -> [u8; LONGEST]
     [0; LONGEST]
 }
 
-// Prints the whole wall; false if it could not all be written.
-pub fn print(reading: Reading, rows: &[u8], lines: &[u8]) -> bool {
+// Prints the whole wall.
+pub fn print<W: Write>(out: &mut W, reading: Reading, rows: &[u8], lines: &[u8]) -> Result<()> {
     let c = reading.counters;
     let stop = reading.stop;
     let mut text = space();
     let n = page::write(c, rows, lines, page::ended(stop, reading.at), &mut text);
-    put(&text, n)
+    put(out, &text, n)
 }
 
-fn put(text: &[u8], n: usize) -> bool {
+fn put<W: Write>(out: &mut W, text: &[u8], n: usize) -> Result<()> {
     let k = lesser(n, text.len());
-    io::write_all(STDOUT_FILENO, &text[..k])
+    out.write_all(&text[..k])
 }
