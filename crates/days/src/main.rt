@@ -6,7 +6,8 @@ mod play;
 mod rooms;
 mod script;
 
-ghost use Rattle.std.specs.Prelude.{◌≤◌, length, IfOk};
+ghost use Rattle.std.specs.Prelude.{◌≤◌, length, take, IfOk};
+ghost use Rattle.std.specs.Io.KnownBytes.{Consumes};
 
 use std::io::{Read, Result};
 
@@ -28,7 +29,9 @@ fn main(rt: HostRuntime) -> Result<()> {
 
 // Reads until the room is full or the input ends, and returns how many bytes stand at the room's start.
 fn filled<R: Read>(input: &mut R, room: &mut [u8]) -> Result<usize>
-    ensures { IfOk result (λ n. n ≤ length room.new) }
+    ensures within { IfOk result (λ n. n ≤ length room.new) }
+    ensures bytes { IfOk result (λ n. Consumes (R.remaining input.old) (R.remaining input.new)
+        (take n room.new)) }
 {
     let mut done = 0;
     while done < room.len() {

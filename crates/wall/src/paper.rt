@@ -1,5 +1,8 @@
 // The wall on paper: the whole text is made by `page`; here its bytes are moved.
-ghost use Rattle.std.specs.Prelude.{◌≡◌, length};
+ghost use Rattle.std.specs.Prelude.{◌≡◌, length, take, OnOk};
+ghost use Rattle.std.specs.Io.KnownBytes.{Appends};
+ghost use Rattle.book.specs.State.{lent};
+ghost use Rattle.page.specs.Page.{wall_of, ending_at};
 ghost use Rattle.page.specs.Printable.{wall_longest};
 
 use bounds::lesser;
@@ -16,8 +19,12 @@ fn space() -> [u8; LONGEST]
     [0; LONGEST]
 }
 
-// Prints the whole wall.
-pub fn print<W: Write>(out: &mut W, reading: Reading, rows: &[u8], lines: &[u8]) -> Result<()> {
+// Prints the whole wall, which is within the length if there are no more than 64 rows.
+pub fn print<W: Write>(out: &mut W, reading: Reading, rows: &[u8], lines: &[u8]) -> Result<()>
+    ensures { OnOk result (Appends (W.contents out.old) (W.contents out.new)
+        (take (wall_longest 64) (wall_of (lent reading.counters rows.now lines.now)
+        (ending_at reading.stop reading.at)))) }
+{
     let c = reading.counters;
     let stop = reading.stop;
     let mut text = space();
@@ -25,7 +32,10 @@ pub fn print<W: Write>(out: &mut W, reading: Reading, rows: &[u8], lines: &[u8])
     put(out, &text, n)
 }
 
-fn put<W: Write>(out: &mut W, text: &[u8], n: usize) -> Result<()> {
+// Writes the first n bytes of a text, or all.
+fn put<W: Write>(out: &mut W, text: &[u8], n: usize) -> Result<()>
+    ensures { OnOk result (Appends (W.contents out.old) (W.contents out.new) (take n text.now)) }
+{
     let k = lesser(n, text.len());
     out.write_all(&text[..k])
 }

@@ -1,5 +1,6 @@
 // How the program ended. Its exit status is 0 whatever became of the tape: it writes a digit where it is asked to.
-ghost use Rattle.std.specs.Prelude.{◌≡◌};
+ghost use Rattle.std.specs.Prelude.{◌≡◌, OnOk};
+ghost use Rattle.std.specs.Io.KnownBytes.{Appends};
 ghost use Rattle.wall.specs.Status as Status;
 
 use crate::input::Rest;
@@ -51,14 +52,20 @@ pub fn digit(rest: Rest, stop: Stop, written: bool) -> u8
 }
 
 // What went wrong with the tape or with the wall, in a line.
-pub fn complain<W: Write>(out: &mut W, rest: Rest, written: bool) -> Result<()> {
+pub fn complain<W: Write>(out: &mut W, rest: Rest, written: bool) -> Result<()>
+    ensures { OnOk result (Appends (W.contents out.old) (W.contents out.new)
+        (Status.complaint rest written)) }
+{
     match rest {
         Rest::Closed => unwritten(out, written),
         _ => out.write_all(b"wall: the tape could not be read to its end: no wall is printed\n"),
     }
 }
 
-fn unwritten<W: Write>(out: &mut W, written: bool) -> Result<()> {
+fn unwritten<W: Write>(out: &mut W, written: bool) -> Result<()>
+    ensures { OnOk result (Appends (W.contents out.old) (W.contents out.new)
+        (Status.unwritten written)) }
+{
     if written {
         return Ok(());
     }
