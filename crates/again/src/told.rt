@@ -1,68 +1,69 @@
 // A record's fields by name and value.
 use records::{Record, Sale};
+use std::io::{Result, Write};
 
 // Every field of a record, by its name.
-pub fn tell(r: Record) {
-    head(r);
-    place(r);
+pub fn tell<W: Write>(out: &mut W, r: Record) -> Result<()> {
+    head(out, r)?;
+    place(out, r)?;
     let original = r.sale;
     let new = r.new;
-    sale(original, b"");
-    sale(new, b"new ");
-    day(r);
+    sale(out, original, b"")?;
+    sale(out, new, b"new ")?;
+    day(out, r)
 }
 
-fn head(r: Record) {
-    telling::words(b"\ntype ");
-    telling::letter(r.letter);
-    telling::words(b" time ");
-    telling::number(r.time as u64);
-    telling::words(b" event ");
-    telling::letter(r.event);
+fn head<W: Write>(out: &mut W, r: Record) -> Result<()> {
+    telling::words(out, b"\ntype ")?;
+    telling::letter(out, r.letter)?;
+    telling::words(out, b" time ")?;
+    telling::number(out, r.time as u64)?;
+    telling::words(out, b" event ")?;
+    telling::letter(out, r.event)
 }
 
-fn place(r: Record) {
+fn place<W: Write>(out: &mut W, r: Record) -> Result<()> {
     let symbol = r.symbol;
-    telling::words(b"\ncentre ");
-    telling::letter(r.centre);
-    telling::words(b" symbol ");
-    telling::text(&symbol);
-    telling::words(b" class ");
-    telling::letter(r.class);
+    telling::words(out, b"\ncentre ")?;
+    telling::letter(out, r.centre)?;
+    telling::words(out, b" symbol ")?;
+    telling::text(out, &symbol)?;
+    telling::words(out, b" class ")?;
+    telling::letter(out, r.class)
 }
 
 // A sale, its names after a mark that tells the new one from the original.
-fn sale(s: Sale, mark: &[u8]) {
+fn sale<W: Write>(out: &mut W, s: Sale, mark: &[u8]) -> Result<()> {
     let control = s.control;
-    name(b"\n", mark, b"control ");
-    telling::text(&control);
-    name(b" ", mark, b"price ");
-    telling::number(s.price as u64);
-    name(b" ", mark, b"size ");
-    telling::number(s.size as u64);
-    codes(s, mark);
+    name(out, b"\n", mark, b"control ")?;
+    telling::text(out, &control)?;
+    name(out, b" ", mark, b"price ")?;
+    telling::number(out, s.price as u64)?;
+    name(out, b" ", mark, b"size ")?;
+    telling::number(out, s.size as u64)?;
+    codes(out, s, mark)
 }
 
-fn codes(s: Sale, mark: &[u8]) {
+fn codes<W: Write>(out: &mut W, s: Sale, mark: &[u8]) -> Result<()> {
     let condition = s.condition;
-    name(b" ", mark, b"condition ");
-    telling::text(&condition);
+    name(out, b" ", mark, b"condition ")?;
+    telling::text(out, &condition)
 }
 
-fn name(before: &[u8], mark: &[u8], field: &[u8]) {
-    telling::words(before);
-    telling::words(mark);
-    telling::words(field);
+fn name<W: Write>(out: &mut W, before: &[u8], mark: &[u8], field: &[u8]) -> Result<()> {
+    telling::words(out, before)?;
+    telling::words(out, mark)?;
+    telling::words(out, field)
 }
 
-fn day(r: Record) {
-    telling::words(b"\nhigh ");
-    telling::number(r.high as u64);
-    telling::words(b" low ");
-    telling::number(r.low as u64);
-    telling::words(b" close ");
-    telling::number(r.close as u64);
-    telling::words(b" consolidated ");
-    telling::number(r.consolidated);
-    telling::words(b"\n");
+fn day<W: Write>(out: &mut W, r: Record) -> Result<()> {
+    telling::words(out, b"\nhigh ")?;
+    telling::number(out, r.high as u64)?;
+    telling::words(out, b" low ")?;
+    telling::number(out, r.low as u64)?;
+    telling::words(out, b" close ")?;
+    telling::number(out, r.close as u64)?;
+    telling::words(out, b" consolidated ")?;
+    telling::number(out, r.consolidated)?;
+    telling::words(out, b"\n")
 }

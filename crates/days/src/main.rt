@@ -6,14 +6,40 @@ mod play;
 mod rooms;
 mod script;
 
-use libc::STDIN_FILENO;
+ghost use Rattle.std.specs.Prelude.{◌≤◌, length, take, IfOk};
+ghost use Rattle.std.specs.Io.KnownBytes.{Consumes};
+
+use std::io::{Read, Result};
 
 // A script has at most 65,536 bytes, a line of it stands for at most 128. A book has up to 257 rows and 12 lines.
-fn main() {
-    let mut text = io::large_buffer();
-    let n = io::read_full(STDIN_FILENO, &mut text);
+fn main(rt: HostRuntime) -> Result<()> {
+    let mut text = [0u8; 65536];
+    let n = filled(&mut rt.stdin(), &mut text)?;
     let mut rows = [0u8; 7710];
     let mut lines = [0u8; 480];
     let mut space = [0u8; 128];
-    script::play(&text[..n], &mut rows, &mut lines, &mut space);
+    script::play(
+        &mut rt.stdout(),
+        &text[..n],
+        &mut rows,
+        &mut lines,
+        &mut space,
+    )
+}
+
+// Reads until the room is full or the input ends, and returns how many bytes stand at the room's start.
+fn filled<R: Read>(input: &mut R, room: &mut [u8]) -> Result<usize>
+    ensures within { IfOk result (λ n. n ≤ length room.new) }
+    ensures bytes { IfOk result (λ n. Consumes (R.remaining input.old) (R.remaining input.new)
+        (take n room.new)) }
+{
+    let mut done = 0;
+    while done < room.len() {
+        let n = input.read(&mut room[done..])?;
+        if n == 0 {
+            break;
+        }
+        done += n;
+    }
+    Ok(done)
 }

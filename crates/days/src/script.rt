@@ -12,6 +12,7 @@ use counters::Counters;
 use editions::Edition;
 use numbers::number8;
 use octets::run;
+use std::io::{Result, Write};
 
 // A book's counters, and how many bytes are lent to it.
 #[derive(Clone, Copy)]
@@ -22,47 +23,65 @@ struct Day {
 }
 
 // Signs gather in the space until their line ends.
-pub fn play(text: &[u8], rows: &mut [u8], lines: &mut [u8], space: &mut [u8]) {
+pub fn play<W: Write>(
+    out: &mut W,
+    text: &[u8],
+    rows: &mut [u8],
+    lines: &mut [u8],
+    space: &mut [u8],
+) -> Result<()> {
     let mut day = Day {
         counters: book::fresh(Edition::NlsPlus),
         rows: 0,
         lines: 0,
     };
     let mut pen = Pen(0, 0, false);
-    let mut i: usize = 0;
-    while i < text.len() {
-        let b = text[i];
-        day = turn(day, rows, lines, space, pen.0, b);
-        pen = form::sign(pen, space, b);
-        i += 1;
+    for b in text {
+        day = turn(out, day, rows, lines, space, pen.0, *b)?;
+        pen = form::sign(pen, space, *b);
     }
+    Ok(())
 }
 
 // At a bar the n bytes so far are told, at a line's end they are played.
-fn turn(day: Day, rows: &mut [u8], lines: &mut [u8], space: &[u8], n: usize, b: u8) -> Day {
+fn turn<W: Write>(
+    out: &mut W,
+    day: Day,
+    rows: &mut [u8],
+    lines: &mut [u8],
+    space: &[u8],
+    n: usize,
+    b: u8,
+) -> Result<Day> {
     if b == b'\n' {
         let k = play::least(n, space);
-        return line(day, rows, lines, &space[..k]);
+        return line(out, day, rows, lines, &space[..k]);
     }
     if b == b'|' {
         let k = play::least(n, space);
-        telling::words(&space[..k]);
+        telling::words(out, &space[..k])?;
     }
-    day
+    Ok(day)
 }
 
-fn line(day: Day, rows: &mut [u8], lines: &mut [u8], code: &[u8]) -> Day {
+fn line<W: Write>(
+    out: &mut W,
+    day: Day,
+    rows: &mut [u8],
+    lines: &mut [u8],
+    code: &[u8],
+) -> Result<Day> {
     if single::byte(code, 0) == b'B' {
-        return opened(rows, lines, code);
+        return Ok(opened(rows, lines, code));
     }
     let r = play::least(day.rows, rows);
     let l = play::least(day.lines, lines);
-    let c = call(day.counters, &mut rows[..r], &mut lines[..l], code);
-    Day {
+    let c = call(out, day.counters, &mut rows[..r], &mut lines[..l], code)?;
+    Ok(Day {
         counters: c,
         rows: day.rows,
         lines: day.lines,
-    }
+    })
 }
 
 // A fresh book in rooms full of one byte.
@@ -79,28 +98,23 @@ fn opened(rows: &mut [u8], lines: &mut [u8], code: &[u8]) -> Day {
     }
 }
 
-fn call(c: Counters, rows: &mut [u8], lines: &mut [u8], code: &[u8]) -> Counters {
+fn call<W: Write>(
+    out: &mut W,
+    c: Counters,
+    rows: &mut [u8],
+    lines: &mut [u8],
+    code: &[u8],
+) -> Result<Counters> {
     match single::byte(code, 0) {
-        b'K' => counters(code),
-        b'L' => play::list(c, rows, lines, code),
-        b'D' => play::deliver(c, rows, lines, code),
-        b'r' => {
-            rooms::paste(rows, code);
-            c
-        }
-        b'l' => {
-            rooms::paste(lines, code);
-            c
-        }
-        b'W' => {
-            play::write(rows, code);
-            c
-        }
-        _ => {
-            look(c, rows, lines, code);
-            c
-        }
+        b'K' => return Ok(counters(code)),
+        b'L' => return play::list(out, c, rows, lines, code),
+        b'D' => return play::deliver(out, c, rows, lines, code),
+        b'r' => rooms::paste(rows, code),
+        b'l' => rooms::paste(lines, code),
+        b'W' => play::write(out, rows, code)?,
+        _ => look(out, c, rows, lines, code)?,
     }
+    Ok(c)
 }
 
 fn counters(code: &[u8]) -> Counters {
@@ -114,14 +128,20 @@ fn counters(code: &[u8]) -> Counters {
 }
 
 // What changes nothing.
-fn look(c: Counters, rows: &[u8], lines: &[u8], code: &[u8]) {
+fn look<W: Write>(out: &mut W, c: Counters, rows: &[u8], lines: &[u8], code: &[u8]) -> Result<()> {
     match single::byte(code, 0) {
-        b'R' => play::row(c, rows, lines, code),
-        b'N' => play::state(c, rows, lines),
-        b'M' => play::read(rows),
-        b'T' => rooms::tell(rows, 30, b"[........ 4 J1 4 4 R1 8]", code),
-        b'U' => rooms::tell(lines, 40, b"[........... ........ 4 4 .... 4 4 1]", code),
-        b'.' => telling::words(b"\n"),
-        _ => {}
+        b'R' => play::row(out, c, rows, lines, code),
+        b'N' => play::state(out, c, rows, lines),
+        b'M' => play::read(out, rows),
+        b'T' => rooms::tell(out, rows, 30, b"[........ 4 J1 4 4 R1 8]", code),
+        b'U' => rooms::tell(
+            out,
+            lines,
+            40,
+            b"[........... ........ 4 4 .... 4 4 1]",
+            code,
+        ),
+        b'.' => telling::words(out, b"\n"),
+        _ => Ok(()),
     }
 }

@@ -1,88 +1,114 @@
-// Words, numbers, texts and bytes on standard output, for the programs that tell what the library answers.
-// No contract can say what is written there. Each function is proved to be safe and to end, and it returns nothing.
+// Words, numbers, texts and bytes, for the programs that tell what the library answers. Each function is given a
+// writer. After Ok the writer has the bytes that the clause names behind those that it had, where it is known what it
+// holds: so of one over memory, and not of standard output. After an error nothing is said.
 #![tactic(auto)]
 
-use libc::STDOUT_FILENO;
+ghost use Rattle.std.specs.Prelude.{OnOk, ◌∷◌, [], ◌++◌, drop};
+ghost use Rattle.std.specs.Io.KnownBytes.{Appends};
+ghost use Rattle.std.specs.Fmt.{decimal};
+ghost use Rattle.telling.specs.Told.{marked, glyph, quoted, pair, pairs};
+
+use std::io::{Result, Write};
 
 // The words as they stand.
-pub fn words(text: &[u8]) {
-    io::write_all(STDOUT_FILENO, text);
+pub fn words<W: Write>(out: &mut W, text: &[u8]) -> Result<()>
+    ensures { OnOk result (Appends (W.contents out.old) (W.contents out.new) text.now) }
+{
+    out.write_all(text)
 }
 
 // The words that stand from a place on, if any do.
-pub fn rest(text: &[u8], at: usize) {
+pub fn rest<W: Write>(out: &mut W, text: &[u8], at: usize) -> Result<()>
+    ensures { OnOk result (Appends (W.contents out.old) (W.contents out.new) (drop at text.now)) }
+{
     if at < text.len() {
-        words(&text[at..]);
+        return words(out, &text[at..]);
     }
+    Ok(())
 }
 
 // A number in decimal.
-pub fn number(x: u64) {
-    io::print_decimal(STDOUT_FILENO, x);
+pub fn number<W: Write>(out: &mut W, x: u64) -> Result<()>
+    ensures { OnOk result (Appends (W.contents out.old) (W.contents out.new) (decimal x)) }
+{
+    write!(out, "{x}")
 }
 
 // An answer by its number.
-pub fn answer(x: u8) {
-    number(x as u64);
+pub fn answer<W: Write>(out: &mut W, x: u8) -> Result<()>
+    ensures { OnOk result (Appends (W.contents out.old) (W.contents out.new) (decimal x)) }
+{
+    number(out, x as u64)
 }
 
 // A number after what it is called.
-pub fn field(name: &[u8], x: u64) {
-    words(name);
-    number(x);
+pub fn field<W: Write>(out: &mut W, name: &[u8], x: u64) -> Result<()>
+    ensures { OnOk result (Appends (W.contents out.old) (W.contents out.new) (name.now ++ decimal x)) }
+{
+    words(out, name)?;
+    number(out, x)
 }
 
 // A number after a blank, with a mark before that; no mark if the mark is a blank too.
-pub fn marked(mark: u8, x: u64) {
+pub fn marked<W: Write>(out: &mut W, mark: u8, x: u64) -> Result<()>
+    ensures { OnOk result (Appends (W.contents out.old) (W.contents out.new) (marked mark x)) }
+{
     if mark != b' ' {
-        words(&[mark]);
+        words(out, &[mark])?;
     }
-    field(b" ", x);
+    field(out, b" ", x)
 }
 
 // What a line is about: a message type's letter, then a name.
-pub fn label(kind: u8, name: &[u8]) {
-    words(&[kind]);
-    words(b" ");
-    words(name);
+pub fn label<W: Write>(out: &mut W, kind: u8, name: &[u8]) -> Result<()>
+    ensures { OnOk result (Appends (W.contents out.old) (W.contents out.new) (kind ∷ 32 ∷ name.now)) }
+{
+    words(out, &[kind])?;
+    words(out, b" ")?;
+    words(out, name)
 }
 
 // A byte in quotes.
-pub fn letter(x: u8) {
-    let one = [x];
-    text(&one);
+pub fn letter<W: Write>(out: &mut W, x: u8) -> Result<()>
+    ensures { OnOk result (Appends (W.contents out.old) (W.contents out.new) (quoted (x ∷ []))) }
+{
+    text(out, &[x])
 }
 
 // A text in quotes, a zero byte as \0.
-pub fn text(bytes: &[u8]) {
-    words(b"\"");
-    let mut i: usize = 0;
-    while i < bytes.len() {
-        glyph(bytes[i]);
-        i += 1;
+pub fn text<W: Write>(out: &mut W, bytes: &[u8]) -> Result<()>
+    ensures { OnOk result (Appends (W.contents out.old) (W.contents out.new) (quoted bytes.now)) }
+{
+    words(out, b"\"")?;
+    for b in bytes {
+        glyph(out, *b)?;
     }
-    words(b"\"");
+    words(out, b"\"")
 }
 
 // One byte of a text.
-fn glyph(x: u8) {
+fn glyph<W: Write>(out: &mut W, x: u8) -> Result<()>
+    ensures { OnOk result (Appends (W.contents out.old) (W.contents out.new) (glyph x)) }
+{
     if x == 0 {
-        words(b"\\0");
-    } else {
-        let one = [x];
-        words(&one);
+        return words(out, b"\\0");
     }
+    words(out, &[x])
 }
 
 // Two hexadecimal digits for each byte.
-pub fn hex(bytes: &[u8]) {
-    let mut i: usize = 0;
-    while i < bytes.len() {
-        io::print_hex(STDOUT_FILENO, wide(bytes[i]), 2);
-        i += 1;
+pub fn hex<W: Write>(out: &mut W, bytes: &[u8]) -> Result<()>
+    ensures { OnOk result (Appends (W.contents out.old) (W.contents out.new) (pairs bytes.now)) }
+{
+    for b in bytes {
+        pair(out, *b)?;
     }
+    Ok(())
 }
 
-fn wide(x: u8) -> u64 {
-    x as u64
+// The two hexadecimal digits of a byte.
+fn pair<W: Write>(out: &mut W, x: u8) -> Result<()>
+    ensures { OnOk result (Appends (W.contents out.old) (W.contents out.new) (pair x)) }
+{
+    write!(out, "{x:02x}")
 }

@@ -10,6 +10,7 @@ mod sets;
 mod sound;
 
 use sample::Sample;
+use std::io::{Result, Write};
 
 // The last millisecond of the day.
 const TIME: u64 = 86399999;
@@ -22,67 +23,68 @@ const SIZE: u64 = 4294967295;
 
 const VOLUME: u64 = 18446744073709551615;
 
-fn main() {
-    event();
-    trade(sound::trade(b'T'));
-    trade(sound::trade(b'X'));
-    correction();
-    summary();
+fn main(rt: HostRuntime) -> Result<()> {
+    let mut out = rt.stdout();
+    event(&mut out)?;
+    trade(&mut out, sound::trade(b'T'))?;
+    trade(&mut out, sound::trade(b'X'))?;
+    correction(&mut out)?;
+    summary(&mut out)
 }
 
-fn event() {
+fn event<W: Write>(out: &mut W) -> Result<()> {
     let s = sound::event();
-    sets::letter(s, b"type", 4);
-    sets::letter(s, b"event", 5);
-    ranges::number(s, b"time", 0, 4, TIME);
-    lengths::every(s);
+    sets::letter(out, s, b"type", 4)?;
+    sets::letter(out, s, b"event", 5)?;
+    ranges::number(out, s, b"time", 0, 4, TIME)?;
+    lengths::every(out, s)
 }
 
-fn trade(s: Sample) {
-    original(s);
-    amounts(s);
-    ranges::number(s, b"consolidated", 37, 8, VOLUME);
-    lengths::every(s);
+fn trade<W: Write>(out: &mut W, s: Sample) -> Result<()> {
+    original(out, s)?;
+    amounts(out, s)?;
+    ranges::number(out, s, b"consolidated", 37, 8, VOLUME)?;
+    lengths::every(out, s)
 }
 
-fn correction() {
+fn correction<W: Write>(out: &mut W) -> Result<()> {
     let s = sound::correction();
-    original(s);
-    sets::text(s, b"new control", 37, 10);
-    sets::text(s, b"new condition", 55, 4);
-    amounts(s);
-    ranges::number(s, b"new price", 47, 4, PRICE);
-    ranges::number(s, b"new size", 51, 4, SIZE);
-    ranges::number(s, b"consolidated", 59, 8, VOLUME);
-    lengths::every(s);
+    original(out, s)?;
+    sets::text(out, s, b"new control", 37, 10)?;
+    sets::text(out, s, b"new condition", 55, 4)?;
+    amounts(out, s)?;
+    ranges::number(out, s, b"new price", 47, 4, PRICE)?;
+    ranges::number(out, s, b"new size", 51, 4, SIZE)?;
+    ranges::number(out, s, b"consolidated", 59, 8, VOLUME)?;
+    lengths::every(out, s)
 }
 
-fn summary() {
+fn summary<W: Write>(out: &mut W) -> Result<()> {
     let s = sound::summary();
-    sets::letter(s, b"type", 4);
-    sets::text(s, b"symbol", 5, 8);
-    sets::letter(s, b"class", 13);
-    ranges::number(s, b"time", 0, 4, TIME);
-    ranges::number(s, b"high", 14, 4, PRICE);
-    ranges::number(s, b"low", 18, 4, PRICE);
-    ranges::number(s, b"close", 22, 4, PRICE);
-    ranges::number(s, b"consolidated", 26, 8, VOLUME);
-    lengths::every(s);
+    sets::letter(out, s, b"type", 4)?;
+    sets::text(out, s, b"symbol", 5, 8)?;
+    sets::letter(out, s, b"class", 13)?;
+    ranges::number(out, s, b"time", 0, 4, TIME)?;
+    ranges::number(out, s, b"high", 14, 4, PRICE)?;
+    ranges::number(out, s, b"low", 18, 4, PRICE)?;
+    ranges::number(out, s, b"close", 22, 4, PRICE)?;
+    ranges::number(out, s, b"consolidated", 26, 8, VOLUME)?;
+    lengths::every(out, s)
 }
 
 // The letters and texts that T, X and C have alike.
-fn original(s: Sample) {
-    sets::letter(s, b"type", 4);
-    sets::letter(s, b"centre", 5);
-    sets::text(s, b"symbol", 6, 8);
-    sets::letter(s, b"class", 14);
-    sets::text(s, b"control", 15, 10);
-    sets::text(s, b"condition", 33, 4);
+fn original<W: Write>(out: &mut W, s: Sample) -> Result<()> {
+    sets::letter(out, s, b"type", 4)?;
+    sets::letter(out, s, b"centre", 5)?;
+    sets::text(out, s, b"symbol", 6, 8)?;
+    sets::letter(out, s, b"class", 14)?;
+    sets::text(out, s, b"control", 15, 10)?;
+    sets::text(out, s, b"condition", 33, 4)
 }
 
 // The numbers that T, X and C have alike.
-fn amounts(s: Sample) {
-    ranges::number(s, b"time", 0, 4, TIME);
-    ranges::number(s, b"price", 25, 4, PRICE);
-    ranges::number(s, b"size", 29, 4, SIZE);
+fn amounts<W: Write>(out: &mut W, s: Sample) -> Result<()> {
+    ranges::number(out, s, b"time", 0, 4, TIME)?;
+    ranges::number(out, s, b"price", 25, 4, PRICE)?;
+    ranges::number(out, s, b"size", 29, 4, SIZE)
 }

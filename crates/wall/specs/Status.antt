@@ -1,7 +1,7 @@
 -- How a play went, as the digit that a script is told: 0 if the whole tape was read and played and all was written, 3 if the tape stops,
--- 1 if it could not be read or the wall could not be written.
+-- 1 if it could not be read or the wall could not be written. And what a person is told of that.
 -- Assumes nothing.
-use Rattle.std.specs.Prelude.{ℕ, Bool, true, false}
+use Rattle.std.specs.Prelude.{ℕ, Bool, true, false, List, [], ◌++◌, ◌∷◌, codes}
 use Rattle.tape.specs.declared.Stop.{Stop}
 use Rattle.tape.specs.declared.Stop.TheVariants.{Ended, NoKind, CutShort}
 use Rattle.wall.specs.declared.input.Rest.{Rest}
@@ -30,3 +30,18 @@ read_status Closed w = tape_status w
 abbrev pub status_of : Rest → Stop → Bool → ℕ
 status_of rest w false = failed
 status_of rest w true = read_status rest w
+
+-- ---- the line on standard error, if there is one
+
+abbrev pub unwritten : Bool → List ℕ
+unwritten true = []
+unwritten false = codes "wall: the wall could not be written" ++ (10 ∷ [])
+
+abbrev pub unread : List ℕ
+unread = codes "wall: the tape could not be read to its end: no wall is printed" ++ (10 ∷ [])
+
+-- of a tape that was read to its end, that the wall could not be written; of another, that no wall is printed
+abbrev pub complaint : Rest → Bool → List ℕ
+complaint Open written = unread
+complaint Unread written = unread
+complaint Closed written = unwritten written

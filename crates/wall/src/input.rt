@@ -1,9 +1,11 @@
-// The tape on standard input, read in pieces of any size. What a piece comes to is told by `feed`; here bytes are
-// moved.
+// The tape, read in pieces of any size. What a piece comes to is told by `feed`; here bytes are moved.
 use bounds::lesser;
 use feed::reading::{Reading, go_on};
-use libc::STDIN_FILENO;
+use std::io::Read;
 use tape::Stop;
+
+// Room for a piece of the tape.
+const PIECE: usize = 4096;
 
 // What is known of the rest of the tape.
 #[derive(Clone, Copy)]
@@ -24,48 +26,42 @@ pub struct Tape {
 }
 
 // A proved loop has to end, and nothing says that a tape does: the turns are more than any run uses up.
-pub fn all(rows: &mut [u8], lines: &mut [u8]) -> Tape {
-    let mut piece = io::buffer();
+pub fn all<R: Read>(input: &mut R, rows: &mut [u8], lines: &mut [u8]) -> Tape {
+    let mut piece = [0u8; PIECE];
     let mut tape = Tape {
         reading: feed::reading::begin(),
         rest: Rest::Open,
     };
-    let mut turns = u64::MAX;
-    while turns > 0 && is_open(tape) {
-        tape = one(tape, rows, lines, &mut piece);
-        turns -= 1;
+    for _ in 0..u64::MAX {
+        if !is_open(tape) {
+            break;
+        }
+        tape = one(input, tape, rows, lines, &mut piece);
     }
     tape
 }
 
 fn is_open(tape: Tape) -> bool {
-    let rest = tape.rest;
-    match rest {
-        Rest::Open => true,
-        _ => false,
-    }
+    matches!(tape.rest, Rest::Open)
 }
 
 // One reading, behind what is held, and what can be played of it. Less is held than the piece has room for
 // (`held_short` in crates/feed/proofs/Pieces.antt), so that the lesser of the two is what is held.
-fn one(tape: Tape, rows: &mut [u8], lines: &mut [u8], piece: &mut [u8]) -> Tape {
+fn one<R: Read>(
+    input: &mut R,
+    tape: Tape,
+    rows: &mut [u8],
+    lines: &mut [u8],
+    piece: &mut [u8],
+) -> Tape {
     let reading = tape.reading;
     let from = lesser(reading.held, piece.len());
-    let got = libc::read(STDIN_FILENO, &mut piece[from..]);
-    if got < 0 {
-        return Tape {
-            reading: reading,
-            rest: Rest::Unread,
-        };
-    }
-    if got == 0 {
-        return Tape {
-            reading: reading,
-            rest: Rest::Closed,
-        };
-    }
-    let n = io::count(got, &piece[from..]);
-    play_on(reading, rows, lines, piece, from + n)
+    let rest = match input.read(&mut piece[from..]) {
+        Ok(0) => Rest::Closed,
+        Ok(n) => return play_on(reading, rows, lines, piece, from + n),
+        Err(_) => Rest::Unread,
+    };
+    Tape { reading, rest }
 }
 
 // Plays the first n bytes of the piece.

@@ -9,17 +9,18 @@ mod status;
 
 use input::Rest;
 
-fn main() {
+fn main(rt: HostRuntime) {
     let mut rows = rooms::for_rows();
     let mut lines = rooms::for_lines();
-    let tape = input::all(&mut rows, &mut lines);
+    let tape = input::all(&mut rt.stdin(), &mut rows, &mut lines);
     let reading = tape.reading;
     let rest = tape.rest;
     let stop = reading.stop;
     let written = match rest {
-        Rest::Closed => paper::print(reading, &rows, &lines),
+        Rest::Closed => paper::print(&mut rt.stdout(), reading, &rows, &lines).is_ok(),
         _ => false,
     };
-    status::complain(rest, written);
-    status::tell(status::digit(rest, stop, written));
+    // Where the message or the digit cannot be written, nobody is left to be told so.
+    let _ = status::complain(&mut rt.stderr(), rest, written);
+    let _ = status::tell(&rt, status::digit(rest, stop, written));
 }

@@ -1,10 +1,13 @@
 // The wall on paper: the whole text is made by `page`; here its bytes are moved.
-ghost use Rattle.std.specs.Prelude.{◌≡◌, length};
+ghost use Rattle.std.specs.Prelude.{◌≡◌, length, take, OnOk};
+ghost use Rattle.std.specs.Io.KnownBytes.{Appends};
+ghost use Rattle.book.specs.State.{lent};
+ghost use Rattle.page.specs.Page.{wall_of, ending_at};
 ghost use Rattle.page.specs.Printable.{wall_longest};
 
 use bounds::lesser;
 use feed::reading::Reading;
-use libc::STDOUT_FILENO;
+use std::io::{Result, Write};
 
 // The longest wall of the program's rows: the columns' names, a line for each row, the closing line and the last one.
 const LONGEST: usize = 46 + crate::rooms::ROWS * 130 + 83 + 35;
@@ -16,16 +19,23 @@ fn space() -> [u8; LONGEST]
     [0; LONGEST]
 }
 
-// Prints the whole wall; false if it could not all be written.
-pub fn print(reading: Reading, rows: &[u8], lines: &[u8]) -> bool {
+// Prints the whole wall, which is within the length if there are no more than 64 rows.
+pub fn print<W: Write>(out: &mut W, reading: Reading, rows: &[u8], lines: &[u8]) -> Result<()>
+    ensures { OnOk result (Appends (W.contents out.old) (W.contents out.new)
+        (take (wall_longest 64) (wall_of (lent reading.counters rows.now lines.now)
+        (ending_at reading.stop reading.at)))) }
+{
     let c = reading.counters;
     let stop = reading.stop;
     let mut text = space();
     let n = page::write(c, rows, lines, page::ended(stop, reading.at), &mut text);
-    put(&text, n)
+    put(out, &text, n)
 }
 
-fn put(text: &[u8], n: usize) -> bool {
+// Writes the first n bytes of a text, or all.
+fn put<W: Write>(out: &mut W, text: &[u8], n: usize) -> Result<()>
+    ensures { OnOk result (Appends (W.contents out.old) (W.contents out.new) (take n text.now)) }
+{
     let k = lesser(n, text.len());
-    io::write_all(STDOUT_FILENO, &text[..k])
+    out.write_all(&text[..k])
 }

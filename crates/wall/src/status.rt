@@ -1,13 +1,17 @@
-// How the program ended. A program of this language has no exit status: it writes a digit where it is asked to.
-ghost use Rattle.std.specs.Prelude.{◌≡◌};
+// How the program ended. Its exit status is 0 whatever became of the tape: it writes a digit where it is asked to.
+ghost use Rattle.std.specs.Prelude.{◌≡◌, OnOk};
+ghost use Rattle.std.specs.Io.KnownBytes.{Appends};
 ghost use Rattle.wall.specs.Status as Status;
 
 use crate::input::Rest;
-use libc::STDERR_FILENO;
+use std::env::FillError;
+use std::fs::OpenOptions;
+use std::io::{Result, Write};
+use std::rt::{Env, Files};
 use tape::Stop;
 
-// Where the status goes: a descriptor that whoever asks for it has opened.
-const STATUS: i32 = 3;
+// Where the status goes: a descriptor that whoever asks for it has opened, by its name among files.
+const STATUS: &str = "/dev/fd/3";
 
 const PLAYED: u8 = b'0';
 
@@ -47,28 +51,39 @@ pub fn digit(rest: Rest, stop: Stop, written: bool) -> u8
     FAILED
 }
 
-// What went wrong with the tape or with the wall, in a line on standard error.
-pub fn complain(rest: Rest, written: bool) {
+// What went wrong with the tape or with the wall, in a line.
+pub fn complain<W: Write>(out: &mut W, rest: Rest, written: bool) -> Result<()>
+    ensures { OnOk result (Appends (W.contents out.old) (W.contents out.new)
+        (Status.complaint rest written)) }
+{
     match rest {
-        Rest::Closed => unwritten(written),
-        _ => say(b"wall: the tape could not be read to its end: no wall is printed\n"),
+        Rest::Closed => unwritten(out, written),
+        _ => out.write_all(b"wall: the tape could not be read to its end: no wall is printed\n"),
     }
 }
 
-fn unwritten(written: bool) {
-    if !written {
-        say(b"wall: the wall could not be written\n");
+fn unwritten<W: Write>(out: &mut W, written: bool) -> Result<()>
+    ensures { OnOk result (Appends (W.contents out.old) (W.contents out.new)
+        (Status.unwritten written)) }
+{
+    if written {
+        return Ok(());
     }
+    out.write_all(b"wall: the wall could not be written\n")
 }
 
-fn say(line: &[u8]) {
-    io::write_all(STDERR_FILENO, line);
+// Writes the digit and a newline to the descriptor for it, if the program was started with an argument. Behind what a
+// file there has already, as a write to the descriptor itself would stand.
+pub fn tell<R: Env + Files>(rt: &R, d: u8) -> Result<()> {
+    if !is_asked(rt) {
+        return Ok(());
+    }
+    let mut to = OpenOptions::new().append(true).open(rt, STATUS)?;
+    to.write_all(&[d, b'\n'])
 }
 
-// Writes the digit and a newline to the descriptor for it, if the program was started with an argument.
-pub fn tell(d: u8) {
-    if 1 < os::arg_count() {
-        let line = [d, b'\n'];
-        io::write_all(STATUS, &line);
-    }
+// Whether the program was started with an argument, whatever it says: one that is too long for the room is one too.
+fn is_asked<R: Env>(rt: &R) -> bool {
+    let mut word = [0u8; 1];
+    !matches!(rt.arg(1, &mut word), Err(FillError::NotPresent))
 }
