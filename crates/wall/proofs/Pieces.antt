@@ -1,8 +1,8 @@
 -- One piece more of a tape, read behind what is held, and the wall of a tape that was read.
 -- Assumes nothing.
-use Rattle.std.proofs.Common.{◌≡◌, ℕ, ◌+◌, ◌<◌, ◌≤◌, ◌^◌, List, [], ◌++◌, length, take, drop, sym, ap, ap₂, ◌∙◌, refl, subst, arith, rules, length-drop, length-take-le, append-nil, Option, Bool, true, false}
+use Rattle.std.proofs.Common.{◌≡◌, ℕ, ◌+◌, ◌≤◌, List, [], ◌++◌, length, take, sym, ap, ◌∙◌, refl, subst, arith, rules, length-drop, length-take-le, append-nil, Option, true}
 use Rattle.std.specs.Io.KnownBytes.{Consumes, Keeps, IsAtEnd}
-use Rattle.std.proofs.KnownBytes.{Consumes-nil, Consumes-kept, Consumes-trans}
+use Rattle.std.proofs.KnownBytes.{Consumes-nil, Consumes-kept}
 use Rattle.std.proofs.Math.Seq.{take-append-add}
 use Rattle.std.proofs.lemmas.List.{take-append-le}
 use Rattle.std.proofs.lemmas.Slice.{take-put_mid_below}
@@ -12,14 +12,14 @@ use Rattle.counters.specs.Counting.{fresh_counters}
 use Rattle.book.specs.State.{State, lent}
 use Rattle.tape.specs.declared.Stop.{Stop}
 use Rattle.tape.specs.declared.Stop.TheVariants.{Ended, NoKind, CutShort}
-use Rattle.tape.specs.Playing.{Holding, played, held, feed}
+use Rattle.tape.specs.Playing.{Holding, played, held}
 use Rattle.tape.proofs.Pieces.{begun_is, feed_one, kept_short}
 use Rattle.feed.specs.declared.reading.Reading.{Reading}
 use Rattle.feed.specs.Reading.{Standing, standing, gone, nothing_read, StandsAt}
 use Rattle.feed.proofs.Pieces.{goes_on}
 use Rattle.wall.specs.declared.input.Rest.{Rest}
 use Rattle.wall.specs.declared.input.Rest.TheVariants.{Open, Closed, Unread}
-use Rattle.wall.specs.Reads.{GoesOn, RestIs, ReadTo, ReadsOn, is_open, rest_after}
+use Rattle.wall.specs.Reads.{GoesOn, RestIs, is_open, rest_after}
 
 -- ---- the rest
 

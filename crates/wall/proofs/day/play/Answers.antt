@@ -1,5 +1,5 @@
 -- What was written is the wall of all that the reader gave.
-use Rattle.std.proofs.Common.{◌≡◌, ◌≤◌, List, ℕ, length, sym, ◌∙◌, subst, rules}
+use Rattle.std.proofs.Common.{◌≤◌, ℕ, length, sym, ◌∙◌, subst, rules}
 use Rattle.std.specs.Io.KnownBytes.{Appends}
 use Rattle.rows.specs.Rows.{row_limit}
 use Rattle.book.specs.State.{lent}
@@ -19,7 +19,7 @@ returns-in-Closed g c limit written =
       gave = t.gave;
       all = closed_is c.all-tape.result.rest r.stop (g.R.Read.remaining c.all-tape.new.input) c.in-Closed.is t.closed;
       wall = λ short.
-      subst (Appends (g.W.Write.contents c.args.out.now) (g.W.Write.contents c.print.new.out))
-      (read_wall c.args.rows.now c.args.lines.now t.tape (lent r.counters rows c.all-tape.new.lines) r.stop r.at t.state t.at t.stop short)
-      (on_ok c.print.result _ (sym c.is_ok-written.ensures.value ∙ written) put);
+          subst (Appends (g.W.Write.contents c.args.out.now) (g.W.Write.contents c.print.new.out))
+          (read_wall c.args.rows.now c.args.lines.now t.tape (lent r.counters rows c.all-tape.new.lines) r.stop r.at t.state t.at t.stop short)
+          (on_ok c.print.result _ (sym c.is_ok-written.ensures.value ∙ written) put);
     }

@@ -5,13 +5,14 @@ use Rattle.wall.proofs.Pieces.{at_first, begun_open}
 use Rattle.wall.proofs.input.all.Goals as goal
 
 pub loop-init : goal.loop-init
-loop-init g c =
-    (search rules,
-    record {
-      more = [];
-      gave = Consumes-nil (g.R.Read.remaining c.args.input.now);
-      to = record {
-        stands = at_first c.begin.result c.args.rows.now c.args.lines.now _ c.begin.ensures;
-        closed = begun_open c.begin.result c.begin.ensures;
-      };
-    })
+loop-init g c = (
+  search rules,
+  record {
+    more = [];
+    gave = Consumes-nil (g.R.Read.remaining c.args.input.now);
+    to = record {
+      stands = at_first c.begin.result c.args.rows.now c.args.lines.now _ c.begin.ensures;
+      closed = begun_open c.begin.result c.begin.ensures;
+    };
+  },
+)

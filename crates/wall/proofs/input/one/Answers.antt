@@ -1,9 +1,7 @@
 -- A reading that gives bytes goes on with the tape; one that gives none, or fails, leaves it as it was.
-use Rattle.std.proofs.Common.{◌≡◌, ℕ, ◌≤◌, ◌<◌, List, [], ◌++◌, length, take, sym, ap, ◌∙◌, refl, subst, arith, rules}
-use Rattle.std.specs.Io.KnownBytes.{Consumes}
+use Rattle.std.proofs.Common.{◌≡◌, ℕ, [], ◌++◌, take, ap, ◌∙◌, arith, rules}
 use Rattle.book.specs.State.{lent}
 use Rattle.feed.specs.Reading.{standing}
-use Rattle.wall.specs.Reads.{RestIs}
 use Rattle.wall.proofs.Pieces.{open_goes, closed_by, none_read, one_more, held_few, behind, nothing_more, none_given}
 use Rattle.wall.proofs.input.one.Goals as goal
 
