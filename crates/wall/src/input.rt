@@ -1,4 +1,11 @@
 // The tape, read in pieces of any size. What a piece comes to is told by `feed`; here bytes are moved.
+ghost use Rattle.std.specs.Prelude.{◌≡◌, ◌<◌, List, ℕ, true, length};
+ghost use Rattle.editions.specs.declared.Edition.TheVariants.{NlsPlus};
+ghost use Rattle.counters.specs.Counting.{fresh_counters};
+ghost use Rattle.book.specs.State.{State, lent};
+ghost use Rattle.feed.specs.Reading.{standing, gone};
+ghost use Rattle.wall.specs.Reads.{AllPlayed, ReadTo, ReadsOn, is_open, rest_after};
+
 use bounds::lesser;
 use feed::reading::{Reading, go_on};
 use std::io::Read;
@@ -25,8 +32,12 @@ pub struct Tape {
     pub rest: Rest,
 }
 
+// Reads a tape to its end, and plays it on a fresh book. What a reader gave that could not be read further is played too.
 // A proved loop has to end, and nothing says that a tape does: the turns are more than any run uses up.
-pub fn all<R: Read>(input: &mut R, rows: &mut [u8], lines: &mut [u8]) -> Tape {
+pub fn all<R: Read>(input: &mut R, rows: &mut [u8], lines: &mut [u8]) -> Tape
+    ensures { AllPlayed (lent (fresh_counters NlsPlus) rows.old lines.old) (R.remaining input.old)
+        (R.remaining input.new) result (lent result.reading.counters rows.new lines.new) }
+{
     let mut piece = [0u8; PIECE];
     let mut tape = Tape {
         reading: feed::reading::begin(),
@@ -41,7 +52,9 @@ pub fn all<R: Read>(input: &mut R, rows: &mut [u8], lines: &mut [u8]) -> Tape {
     tape
 }
 
-fn is_open(tape: Tape) -> bool {
+fn is_open(tape: Tape) -> bool
+    ensures { result ≡ is_open tape.rest }
+{
     matches!(tape.rest, Rest::Open)
 }
 
@@ -53,7 +66,13 @@ fn one<R: Read>(
     rows: &mut [u8],
     lines: &mut [u8],
     piece: &mut [u8],
-) -> Tape {
+) -> Tape
+    ensures { (s : State) → (before : List ℕ) → 71 < length piece.old → is_open tape.rest ≡ true
+        → ReadTo s before tape.rest (standing tape.reading
+        (lent tape.reading.counters rows.old lines.old) piece.old) (R.remaining input.old)
+        → ReadsOn s before (R.remaining input.old) (R.remaining input.new) result.rest
+        (standing result.reading (lent result.reading.counters rows.new lines.new) piece.new) }
+{
     let reading = tape.reading;
     let from = lesser(reading.held, piece.len());
     let rest = match input.read(&mut piece[from..]) {
@@ -65,13 +84,11 @@ fn one<R: Read>(
 }
 
 // Plays the first n bytes of the piece.
-fn play_on(
-    reading: Reading,
-    rows: &mut [u8],
-    lines: &mut [u8],
-    piece: &mut [u8],
-    n: usize,
-) -> Tape {
+fn play_on(reading: Reading, rows: &mut [u8], lines: &mut [u8], piece: &mut [u8], n: usize) -> Tape
+    ensures stands { standing result.reading (lent result.reading.counters rows.new lines.new) piece.new
+        ≡ gone reading.at (lent reading.counters rows.old lines.old) n piece.old }
+    ensures rest { result.rest ≡ rest_after result.reading.stop }
+{
     let then = go_on(reading, rows, lines, piece, n);
     let stop = then.stop;
     Tape {
@@ -81,7 +98,9 @@ fn play_on(
 }
 
 // Where a byte is no kind, nothing that follows it matters.
-fn after(stop: Stop) -> Rest {
+fn after(stop: Stop) -> Rest
+    ensures { result ≡ rest_after stop }
+{
     match stop {
         Stop::NoKind => Rest::Closed,
         _ => Rest::Open,

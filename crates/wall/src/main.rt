@@ -2,25 +2,17 @@
 // its end has no wall: it would look like a whole day's.
 #![tactic(auto)]
 
+mod day;
 mod input;
 mod paper;
 mod rooms;
 mod status;
 
-use input::Rest;
-
 fn main(rt: HostRuntime) {
     let mut rows = rooms::for_rows();
     let mut lines = rooms::for_lines();
-    let tape = input::all(&mut rt.stdin(), &mut rows, &mut lines);
-    let reading = tape.reading;
-    let rest = tape.rest;
-    let stop = reading.stop;
-    let written = match rest {
-        Rest::Closed => paper::print(&mut rt.stdout(), reading, &rows, &lines).is_ok(),
-        _ => false,
-    };
+    let day = day::play(&mut rt.stdin(), &mut rt.stdout(), &mut rows, &mut lines);
     // Where the message or the digit cannot be written, nobody is left to be told so.
-    let _ = status::complain(&mut rt.stderr(), rest, written);
-    let _ = status::tell(&rt, status::digit(rest, stop, written));
+    let _ = status::complain(&mut rt.stderr(), day.rest, day.written);
+    let _ = status::tell(&rt, status::digit(day.rest, day.stop, day.written));
 }

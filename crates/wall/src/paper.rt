@@ -1,6 +1,7 @@
 // The wall on paper: the whole text is made by `page`; here its bytes are moved.
-ghost use Rattle.std.specs.Prelude.{◌≡◌, length, take, OnOk};
+ghost use Rattle.std.specs.Prelude.{◌≡◌, ◌≤◌, length, take, OnOk};
 ghost use Rattle.std.specs.Io.KnownBytes.{Appends};
+ghost use Rattle.rows.specs.Rows.{row_limit};
 ghost use Rattle.book.specs.State.{lent};
 ghost use Rattle.page.specs.Page.{wall_of, ending_at};
 ghost use Rattle.page.specs.Printable.{wall_longest};
@@ -19,11 +20,11 @@ fn space() -> [u8; LONGEST]
     [0; LONGEST]
 }
 
-// Prints the whole wall, which is within the length if there are no more than 64 rows.
+// Prints the whole wall, for which there is room if there is none for more than 64 rows.
 pub fn print<W: Write>(out: &mut W, reading: Reading, rows: &[u8], lines: &[u8]) -> Result<()>
-    ensures { OnOk result (Appends (W.contents out.old) (W.contents out.new)
-        (take (wall_longest 64) (wall_of (lent reading.counters rows.now lines.now)
-        (ending_at reading.stop reading.at)))) }
+    ensures { row_limit (length rows.now) ≤ 64 → OnOk result (Appends (W.contents out.old)
+        (W.contents out.new) (wall_of (lent reading.counters rows.now lines.now)
+        (ending_at reading.stop reading.at))) }
 {
     let c = reading.counters;
     let stop = reading.stop;
