@@ -6,7 +6,14 @@ use Rattle.editions.specs.declared.Named.{Named}
 use Rattle.records.specs.Packed.{record_bytes}
 use Rattle.records.proofs.Stores.{no_bytes}
 use Rattle.cabinet.specs.Crossing.{read_by}
+use borrow.Author.Rules.{rules}
+use Rattle.octets.specs.Run.{Bytes}
 use Rattle.cabinet.proofs.sorundappa_read.Goals as goal
+use Rattle.cabinet.proofs.sorundappa_read.Goals.{After-edition_of}
+
+-- what a call lends are bytes
+pub entered : (c : After-edition_of) → Bytes c.args.message.now
+entered c = λ i. search rules
 
 pub returns-in-Unknown : goal.returns-in-Unknown
 returns-in-Unknown c = let m = c.args.message.now in

@@ -7,6 +7,11 @@ use Rattle.records.proofs.Again.{record_again}
 use Rattle.message.specs.Reader.{read_of}
 use Rattle.message.proofs.Fitting.{read_fits}
 use Rattle.message.proofs.read.Goals as goal
+use Rattle.message.proofs.read.Goals.{After-read_packed-a}
+
+-- what a call lends are bytes
+pub entered : (c : After-read_packed-a) → Bytes c.args.message.now
+entered c = λ i. (c.type_inv.message i).fits
 
 pub returns : goal.returns
 returns c =

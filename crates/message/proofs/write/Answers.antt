@@ -8,6 +8,21 @@ use Rattle.records.proofs.Again.{record_again}
 use Rattle.message.specs.Writer.{write_answer, write_out}
 use borrow.Author.Rules.{rules}
 use Rattle.message.proofs.write.Goals as goal
+use Rattle.message.proofs.write.Goals.{Start}
+
+-- the record that a call brings fits its types
+pub entered : (c : Start) → RecordFits c.args.r
+entered c =
+    record {
+      time = search rules;
+      symbol = search rules;
+      sale = record { control = search rules; price = search rules; size = search rules; condition = search rules };
+      new = record { control = search rules; price = search rules; size = search rules; condition = search rules };
+      high = search rules;
+      low = search rules;
+      close = search rules;
+      consolidated = search rules;
+    }
 
 pub returns : goal.returns
 returns c =

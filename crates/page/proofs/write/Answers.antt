@@ -11,6 +11,18 @@ use Rattle.page.specs.Printable.{Printable}
 use Rattle.page.proofs.Fitting.{ending_good}
 use Rattle.page.proofs.Laws.{rows_most, none_yet, next_turn, all_turns}
 use Rattle.page.proofs.write.Goals as goal
+use Rattle.page.proofs.write.Goals.{After-loop-k}
+
+-- what a call is lent and told is what its types say
+pub entered : (c : After-loop-k) → Printable (lent c.args.c c.args.rows.now c.args.lines.now) c.args.ending
+entered c =
+    record {
+      rows = λ i. (c.type_inv.rows i).fits;
+      lines = λ i. (c.type_inv.lines i).fits;
+      taken = search rules;
+      wanted = search rules;
+      ending = ending_good c.args.ending _ c.well_formed.1.1.1.0;
+    }
 
 pub overflow_add-end : goal.overflow_add-end
 overflow_add-end c =
@@ -40,13 +52,6 @@ loop-k-preserved c =
 
 pub returns : goal.returns
 returns c =
-    let entered : Printable (lent c.args.c c.args.rows.now c.args.lines.now) c.args.ending = record {
-      rows = λ i. (c.type_inv.rows i).fits;
-      lines = λ i. (c.type_inv.lines i).fits;
-      taken = search rules;
-      wanted = search rules;
-      ending = ending_good c.args.ending _ c.well_formed.1.1.1.0;
-    } in
     let lent_to : State = lent c.args.c c.args.rows.now c.args.lines.now in
     let w = all_turns lent_to c.args.ending c.args.out.now
-    c.loop-k.k c.loop-k.at c.loop-k.out c.printed-end.result c.printed-end.ensures (omega arith) c.loop-k.invariant.1 in record { bytes = w.0; count = w.1; types = entered }
+    c.loop-k.k c.loop-k.at c.loop-k.out c.printed-end.result c.printed-end.ensures (omega arith) c.loop-k.invariant.1 in record { bytes = w.0; count = w.1; types = entered c }

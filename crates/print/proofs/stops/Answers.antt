@@ -1,9 +1,14 @@
 -- `print::stops` meets its contract.
 -- Assumes nothing.
--- what a call brings fits its type
 use Rattle.print.specs.Texts.{stop_text}
 use Rattle.print.proofs.Laws.{byte, then, from_start}
 use Rattle.print.proofs.stops.Goals as goal
+use Prim.Native.Nat.{◌<◌, ◌^◌}
+use Rattle.print.proofs.stops.Goals.{Start}
+
+-- what a call brings fits its type
+pub entered : (c : Start) → c.args.offset < 2 ^ 64
+entered c = c.ranges.offset.fits
 
 pub returns : goal.returns
 unfolding stop_text

@@ -8,7 +8,13 @@ use Rattle.tape.specs.Entries.{head_of}
 use Rattle.tape.specs.declared.entries.Head.TheVariants.{Whole}
 use Rattle.tape.proofs.Plays.{standing_at, standing_length, play_returns, play_turn}
 use borrow.Author.Rules.{rules}
+use Rattle.octets.specs.Run.{Bytes}
 use Rattle.tape.proofs.play.Goals as goal
+use Rattle.tape.proofs.play.Goals.{After-head_at-head}
+
+-- what a call lends are bytes
+pub entered : (c : After-head_at-head) → Bytes c.args.rows.now × Bytes c.args.lines.now × Bytes c.args.part.now
+entered c = (λ i. search rules, λ i. search rules, λ i. search rules)
 
 pub returns-in-Stops : goal.returns-in-Stops
 returns-in-Stops c = play_returns _ _ _ _ c.loop-stop.invariant.1 _
