@@ -53,7 +53,7 @@ use Rattle.clerk.proofs.Once.{at_most_once, named_more, live_exactly}
 -- any listings; the last state is the one that they leave
 pub data Lists : State → List Listing → State → Type 1 where
   no_listing : {s : State} → Lists s [] s
-  -- a symbol is eight bytes and a close fits four by their types: `entered` in crates/book/proofs/list/Proof.antt proves it of every call
+  -- a symbol is eight bytes and a close fits four by their types: `entered` in crates/book/proofs/list/Answers.antt proves it of every call
   a_listing : (κs : ListLfts) (a : ListArgs κs) (r : Said)
       (x : ListExit κs) {ls : List Listing} {end : State}
       → ListingFits (list_given κs a) → list-reads.Learnt κs a r x → Lists (list_left κs a r x).state ls end
@@ -62,7 +62,7 @@ pub data Lists : State → List Listing → State → Type 1 where
 -- any deliveries
 pub data Delivers : State → List Arrival → State → Type 1 where
   no_message : {s : State} → Delivers s [] s
-  -- lent lines and a message are bytes by their types: `entered` in crates/book/proofs/deliver/Proof.antt proves it of every call
+  -- lent lines and a message are bytes by their types: `entered` in crates/book/proofs/deliver/Answers.antt proves it of every call
   a_message : (κs : DeliverLfts) (a : DeliverArgs κs) (r : Said)
       (x : DeliverExit κs) {l : List Arrival} {end : State}
       → Bytes (deliver_from κs a).lines → Bytes (deliver_given κs a).message → deliver-reads.Learnt κs a r x

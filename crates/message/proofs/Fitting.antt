@@ -1,5 +1,5 @@
 -- A record that was read fits its types, and its texts and its centre are bytes. That whatever `read` is lent is bytes,
--- and whatever record `write` is given fits its types, is said beside their proofs (`entered` in `read/Proof` and `write/Proof`).
+-- and whatever record `write` is given fits its types, is said beside their proofs (`entered` in `read/Answers` and `write/Answers`).
 -- Assumes nothing.
 use mathlib.Core.Path.{◌≡◌, ap, sym, subst}
 use mathlib.Core.Bool.{true}
