@@ -1,8 +1,8 @@
 // The library that C and Rust link, by way of `cabinet_c`. Every function takes any counters, any bytes and any slices,
-// and asks nothing of its caller. All but `sorundappa_start`, which answers nothing, and `sorundappa_size`, which tells a
-// size, answer a number of document 01's table. Words that are no book's, because they name no edition, are answered 17
-// by every call on a book, and nothing changes. A clause `types` says what the types of the parameters say of what came
-// in, for whoever reasons about calls.
+// and asks nothing of its caller. All but `sorundappa_start`, which answers nothing, and `sorundappa_size`, which tells
+// a size, answer a number of document 01's table. Words that are no book's, because they name no edition, are answered
+// 17 by every call on a book, and nothing changes. A clause `types` says what the types of the parameters say of what
+// came in, for whoever reasons about calls.
 #![tactic(auto)]
 
 ghost use Rattle.std.specs.Prelude.{◌≡◌};

@@ -21,13 +21,13 @@ glyph_if false x = x ∷ []
 abbrev pub glyph : ℕ → List ℕ
 glyph x = glyph_if (x == 0) x
 
--- a text in quotes
+-- a text in quotes; no other byte is changed, so that two texts can look alike
 abbrev pub quoted : List ℕ → List ℕ
 quoted xs = (34 ∷ []) ++ (flat_map glyph xs ++ (34 ∷ []))
 
--- a byte by its two digits of base 16, and bytes so, one behind the other
-abbrev pub pair : ℕ → List ℕ
-pair x = digit_glyph false (x / 16) ∷ digit_glyph false (x % 16) ∷ []
+-- a byte by its two digits of base 16, a to f small, and bytes so, one behind the other
+abbrev pub hex_byte : ℕ → List ℕ
+hex_byte x = digit_glyph false (x / 16) ∷ digit_glyph false (x % 16) ∷ []
 
-abbrev pub pairs : List ℕ → List ℕ
-pairs xs = flat_map pair xs
+abbrev pub hex_bytes : List ℕ → List ℕ
+hex_bytes xs = flat_map hex_byte xs

@@ -6,7 +6,7 @@
 ghost use Rattle.std.specs.Prelude.{OnOk, ◌∷◌, [], ◌++◌, drop};
 ghost use Rattle.std.specs.Io.KnownBytes.{Appends};
 ghost use Rattle.std.specs.Fmt.{decimal};
-ghost use Rattle.telling.specs.Told.{marked, glyph, quoted, pair, pairs};
+ghost use Rattle.telling.specs.Told.{marked, glyph, quoted, hex_byte, hex_bytes};
 
 use std::io::{Result, Write};
 
@@ -98,17 +98,17 @@ fn glyph<W: Write>(out: &mut W, x: u8) -> Result<()>
 
 // Two hexadecimal digits for each byte.
 pub fn hex<W: Write>(out: &mut W, bytes: &[u8]) -> Result<()>
-    ensures { OnOk result (Appends (W.contents out.old) (W.contents out.new) (pairs bytes.now)) }
+    ensures { OnOk result (Appends (W.contents out.old) (W.contents out.new) (hex_bytes bytes.now)) }
 {
     for b in bytes {
-        pair(out, *b)?;
+        hex_byte(out, *b)?;
     }
     Ok(())
 }
 
 // The two hexadecimal digits of a byte.
-fn pair<W: Write>(out: &mut W, x: u8) -> Result<()>
-    ensures { OnOk result (Appends (W.contents out.old) (W.contents out.new) (pair x)) }
+fn hex_byte<W: Write>(out: &mut W, x: u8) -> Result<()>
+    ensures { OnOk result (Appends (W.contents out.old) (W.contents out.new) (hex_byte x)) }
 {
     write!(out, "{x:02x}")
 }

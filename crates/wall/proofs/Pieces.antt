@@ -19,28 +19,28 @@ use Rattle.feed.specs.Reading.{Standing, standing, gone, nothing_read, StandsAt}
 use Rattle.feed.proofs.Pieces.{goes_on}
 use Rattle.wall.specs.declared.input.Rest.{Rest}
 use Rattle.wall.specs.declared.input.Rest.TheVariants.{Open, Closed, Unread}
-use Rattle.wall.specs.Reads.{GoesOn, RestIs, is_open, rest_after}
+use Rattle.wall.specs.Reads.{CanGoOn, RestSays, is_open, rest_after}
 
 -- ---- the rest
 
-pub open_goes : (r : Rest) (w : Stop) (left : Option (List ℕ)) → is_open r ≡ true → RestIs r w left → GoesOn w
+pub open_goes : (r : Rest) (w : Stop) (left : Option (List ℕ)) → is_open r ≡ true → RestSays r w left → CanGoOn w
 open_goes Open w left e h = h
 open_goes Closed w left e h = search rules
 open_goes Unread w left e h = search rules
 
-ended_open : GoesOn Ended
+ended_open : CanGoOn Ended
 ended_open = search rules
 
-after_is : (w : Stop) (left : Option (List ℕ)) → RestIs (rest_after w) w left
+after_is : (w : Stop) (left : Option (List ℕ)) → RestSays (rest_after w) w left
 after_is Ended left = search rules
 after_is CutShort left = search rules
 after_is NoKind left = λ h. absurd (h refl)
 
-pub closed_by : (r : Rest) (w : Stop) (left : Option (List ℕ)) → r ≡ rest_after w → RestIs r w left
-closed_by r w left e = subst (λ (t : Rest). RestIs t w left) (sym e) (after_is w left)
+pub closed_by : (r : Rest) (w : Stop) (left : Option (List ℕ)) → r ≡ rest_after w → RestSays r w left
+closed_by r w left e = subst (λ (t : Rest). RestSays t w left) (sym e) (after_is w left)
 
-pub closed_is : (r : Rest) (w : Stop) (left : Option (List ℕ)) → r ≡ Closed → RestIs r w left → GoesOn w → IsAtEnd left
-closed_is r w left e h = subst (λ (t : Rest). RestIs t w left) e h
+pub closed_is : (r : Rest) (w : Stop) (left : Option (List ℕ)) → r ≡ Closed → RestSays r w left → CanGoOn w → IsAtEnd left
+closed_is r w left e h = subst (λ (t : Rest). RestSays t w left) e h
 
 -- ---- what stands
 
@@ -63,7 +63,7 @@ one_more s tape more now then n piece w e f =
     stands_with (feed_one s tape more) (ap (λ (y : State). gone now.at y n piece) (sym w.state) ∙ sym f) q
 
 -- what is held is less than a piece has room for
-pub held_few : (s : State) (tape : List ℕ) (now : Standing) → StandsAt (held s tape) now → GoesOn now.stop → now.held ≤ 71
+pub held_few : (s : State) (tape : List ℕ) (now : Standing) → StandsAt (held s tape) now → CanGoOn now.stop → now.held ≤ 71
 held_few s tape now w h =
     let k = kept_short s tape (λ e. h (w.stop ∙ e)) in
     omega (arith, k, w.held, length-drop (played s tape).used tape)
@@ -91,5 +91,5 @@ none_given old new h = Consumes-kept old old new [] (Consumes-nil old) h
 pub none_read : (old new : Option (List ℕ)) (n : ℕ) (bytes : List ℕ) → n ≡ 0 → Consumes old new (take n bytes) → Consumes old new []
 none_read old new n bytes e h = subst (λ (m : ℕ). Consumes old new (take m bytes)) e h
 
-pub begun_open : (r : Reading) → r ≡ nothing_read → GoesOn r.stop
-begun_open r h = subst (λ (x : Reading). GoesOn x.stop) (sym h) ended_open
+pub begun_open : (r : Reading) → r ≡ nothing_read → CanGoOn r.stop
+begun_open r h = subst (λ (x : Reading). CanGoOn x.stop) (sym h) ended_open

@@ -1,5 +1,5 @@
--- How a play went, as the digit that a script is told: 0 if the whole tape was read and played and all was written, 3 if the tape stops,
--- 1 if it could not be read or the wall could not be written. And what a person is told of that.
+-- How a play went, as the digit that a script is told: 1 if the tape could not be read to its end or the wall could not be written;
+-- otherwise 3 if the tape stops, and 0 if it was played to its end. And what a person is told of that.
 -- Assumes nothing.
 use Rattle.std.specs.Prelude.{ℕ, Bool, true, false, List, [], ◌++◌, ◌∷◌, codes}
 use Rattle.tape.specs.declared.Stop.{Stop}
@@ -40,7 +40,8 @@ unwritten false = codes "wall: the wall could not be written" ++ (10 ∷ [])
 abbrev pub unread : List ℕ
 unread = codes "wall: the tape could not be read to its end: no wall is printed" ++ (10 ∷ [])
 
--- of a tape that was read to its end, that the wall could not be written; of another, that no wall is printed
+-- of a tape that could not be read to its end, that no wall is printed; of any other, that its wall could not be written, and nothing if
+-- it was
 abbrev pub complaint : Rest → Bool → List ℕ
 complaint Open written = unread
 complaint Unread written = unread

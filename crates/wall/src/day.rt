@@ -1,10 +1,8 @@
 // A day from its tape to its wall.
-ghost use Rattle.std.specs.Prelude.{◌≡◌, ◌≤◌, true, length};
-ghost use Rattle.rows.specs.Rows.{row_limit};
 ghost use Rattle.book.specs.State.{lent};
 ghost use Rattle.editions.specs.declared.Edition.TheVariants.{NlsPlus};
 ghost use Rattle.counters.specs.Counting.{fresh_counters};
-ghost use Rattle.wall.specs.Reads.{Printed};
+ghost use Rattle.wall.specs.Reads.{DayIs};
 
 use crate::input::Rest;
 use crate::{input, paper};
@@ -19,11 +17,10 @@ pub struct Day {
     pub written: bool,
 }
 
-// Plays a tape, and prints its wall if it was read to its end.
+// Plays a tape and prints its wall. Of one that could not be read to its end nothing is printed.
 pub fn play<R: Read, W: Write>(input: &mut R, out: &mut W, rows: &mut [u8], lines: &mut [u8]) -> Day
-    ensures { row_limit (length rows.old) ≤ 64 → result.written ≡ true
-        → Printed (lent (fresh_counters NlsPlus) rows.old lines.old) (R.remaining input.old)
-        (R.remaining input.new) (W.contents out.old) (W.contents out.new) result.stop }
+    ensures { DayIs (lent (fresh_counters NlsPlus) rows.old lines.old) (R.remaining input.old)
+        (R.remaining input.new) (W.contents out.old) (W.contents out.new) result }
 {
     let tape = input::all(input, rows, lines);
     let reading = tape.reading;

@@ -4,7 +4,7 @@ ghost use Rattle.editions.specs.declared.Edition.TheVariants.{NlsPlus};
 ghost use Rattle.counters.specs.Counting.{fresh_counters};
 ghost use Rattle.book.specs.State.{State, lent};
 ghost use Rattle.feed.specs.Reading.{standing, gone};
-ghost use Rattle.wall.specs.Reads.{AllPlayed, ReadTo, ReadsOn, is_open, rest_after};
+ghost use Rattle.wall.specs.Reads.{AllPlayed, ReadSoFar, ReadMore, is_open, rest_after};
 
 use bounds::lesser;
 use feed::reading::{Reading, go_on};
@@ -32,7 +32,8 @@ pub struct Tape {
     pub rest: Rest,
 }
 
-// Reads a tape to its end, and plays it on a fresh book. What a reader gave that could not be read further is played too.
+// Reads a tape to its end, or to a byte that is no kind, and plays it on a fresh book. What a reader gave that could not
+// be read further is played too.
 // A proved loop has to end, and nothing says that a tape does: the turns are more than any run uses up.
 pub fn all<R: Read>(input: &mut R, rows: &mut [u8], lines: &mut [u8]) -> Tape
     ensures { AllPlayed (lent (fresh_counters NlsPlus) rows.old lines.old) (R.remaining input.old)
@@ -68,9 +69,9 @@ fn one<R: Read>(
     piece: &mut [u8],
 ) -> Tape
     ensures { (s : State) → (before : List ℕ) → 71 < length piece.old → is_open tape.rest ≡ true
-        → ReadTo s before tape.rest (standing tape.reading
+        → ReadSoFar s before tape.rest (standing tape.reading
         (lent tape.reading.counters rows.old lines.old) piece.old) (R.remaining input.old)
-        → ReadsOn s before (R.remaining input.old) (R.remaining input.new) result.rest
+        → ReadMore s before (R.remaining input.old) (R.remaining input.new) result.rest
         (standing result.reading (lent result.reading.counters rows.new lines.new) piece.new) }
 {
     let reading = tape.reading;

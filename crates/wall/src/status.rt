@@ -1,5 +1,5 @@
 // How the program ended. Its exit status is 0 whatever became of the tape: it writes a digit where it is asked to.
-ghost use Rattle.std.specs.Prelude.{◌≡◌, OnOk};
+ghost use Rattle.std.specs.Prelude.{◌≡◌, OnOk, []};
 ghost use Rattle.std.specs.Io.KnownBytes.{Appends};
 ghost use Rattle.wall.specs.Status as Status;
 
@@ -19,7 +19,7 @@ const FAILED: u8 = b'1';
 
 const STOPS: u8 = b'3';
 
-// A tape that was read to its end, by why its play stands there.
+// A tape that ended or stops, by why its play stands there.
 fn of_tape(stop: Stop) -> u8
     ensures { result ≡ Status.tape_status stop }
 {
@@ -53,8 +53,9 @@ pub fn digit(rest: Rest, stop: Stop, written: bool) -> u8
 
 // What went wrong with the tape or with the wall, in a line.
 pub fn complain<W: Write>(out: &mut W, rest: Rest, written: bool) -> Result<()>
-    ensures { OnOk result (Appends (W.contents out.old) (W.contents out.new)
+    ensures line { OnOk result (Appends (W.contents out.old) (W.contents out.new)
         (Status.complaint rest written)) }
+    ensures quiet { Status.complaint rest written ≡ [] → W.contents out.new ≡ W.contents out.old }
 {
     match rest {
         Rest::Closed => unwritten(out, written),
@@ -63,8 +64,9 @@ pub fn complain<W: Write>(out: &mut W, rest: Rest, written: bool) -> Result<()>
 }
 
 fn unwritten<W: Write>(out: &mut W, written: bool) -> Result<()>
-    ensures { OnOk result (Appends (W.contents out.old) (W.contents out.new)
+    ensures line { OnOk result (Appends (W.contents out.old) (W.contents out.new)
         (Status.unwritten written)) }
+    ensures quiet { Status.unwritten written ≡ [] → W.contents out.new ≡ W.contents out.old }
 {
     if written {
         return Ok(());

@@ -12,7 +12,7 @@ loop-init g c = (
     gave = Consumes-nil (g.R.Read.remaining c.args.input.now);
     to = record {
       stands = at_first c.begin.result c.args.rows.now c.args.lines.now _ c.begin.ensures;
-      closed = begun_open c.begin.result c.begin.ensures;
+      rest = begun_open c.begin.result c.begin.ensures;
     };
   },
 )

@@ -9,7 +9,7 @@ pub returns-in-Ok : goal.returns-in-Ok
 returns-in-Ok g c s before room goes to =
     let r = c.args.tape.reading in
     let now = standing r (lent r.counters c.args.rows.now c.args.lines.now) c.args.piece.now in
-    let few = held_few s before now to.stands (open_goes _ _ _ goes to.closed) in
+    let few = held_few s before now to.stands (open_goes _ _ _ goes to.rest) in
     let from : c.lesser-from.result ≡ r.held = omega (arith, c.lesser-from.ensures, few, room) in
     let given = c.in-Ok.ensures in
     let front = behind c.lesser-from.result _ c.in-Ok.n c.args.piece.now c.read.new.buf (omega (arith, from, few, room)) given.bound.0 in
@@ -20,7 +20,7 @@ returns-in-Ok g c s before room goes to =
         stands =
             one_more s before _ now _ _ _ to.stands (front ∙ ap (λ (m : ℕ). take m c.args.piece.now ++ take c.in-Ok.n c.read.new.buf) from)
             c.play_on.ensures.stands;
-        closed = closed_by c.play_on.result.rest c.play_on.result.reading.stop (g.R.Read.remaining c.read.new.self) c.play_on.ensures.rest;
+        rest = closed_by c.play_on.result.rest c.play_on.result.reading.stop (g.R.Read.remaining c.read.new.self) c.play_on.ensures.rest;
       };
     }
 
@@ -28,7 +28,7 @@ pub returns-in-Ok-eq0 : goal.returns-in-Ok-eq0
 returns-in-Ok-eq0 g c s before room goes to =
     let r = c.args.tape.reading in
     let now = standing r (lent r.counters c.args.rows.now c.args.lines.now) c.args.piece.now in
-    let few = held_few s before now to.stands (open_goes _ _ _ goes to.closed) in
+    let few = held_few s before now to.stands (open_goes _ _ _ goes to.rest) in
     let from : c.lesser-from.result ≡ r.held = omega (arith, c.lesser-from.ensures, few, room) in
     let given = c.in-Ok-eq0.ensures in
     let none : c.in-Ok-eq0.field-0 ≡ 0 = search rules in
@@ -37,7 +37,7 @@ returns-in-Ok-eq0 g c s before room goes to =
       gave = none_read (g.R.Read.remaining c.args.input.now) (g.R.Read.remaining c.read.new.self) c.in-Ok-eq0.field-0 c.read.new.buf none given.bytes.0;
       to = record {
         stands = nothing_more s before now _ _ _ from (omega (arith, from, few, room)) to.stands;
-        closed = λ h. given.bytes.1 none (search rules);
+        rest = λ h. given.bytes.1 none (search rules);
       };
     }
 
@@ -45,13 +45,13 @@ pub returns-in-Err : goal.returns-in-Err
 returns-in-Err g c s before room goes to =
     let r = c.args.tape.reading in
     let now = standing r (lent r.counters c.args.rows.now c.args.lines.now) c.args.piece.now in
-    let few = held_few s before now to.stands (open_goes _ _ _ goes to.closed) in
+    let few = held_few s before now to.stands (open_goes _ _ _ goes to.rest) in
     let from : c.lesser-from.result ≡ r.held = omega (arith, c.lesser-from.ensures, few, room) in
     record {
       more = [];
       gave = none_given _ _ c.in-Err.ensures.bytes;
       to = record {
         stands = nothing_more s before now _ _ _ from (omega (arith, from, few, room)) to.stands;
-        closed = tt;
+        rest = open_goes _ _ _ goes to.rest;
       };
     }
