@@ -32,8 +32,8 @@ pub struct Tape {
     pub rest: Rest,
 }
 
-// Reads a tape to its end, or to a byte that is no kind, and plays it on a fresh book. What a reader gave before it could
-// not be read further is played too.
+// Reads a tape to its end, or to a byte that is no kind, and plays it on a fresh book. What a reader gave
+// before it could not be read further is played too.
 // A proved loop has to end, and nothing says that a tape does: the turns are more than any run uses up.
 pub fn all<R: Read>(input: &mut R, rows: &mut [u8], lines: &mut [u8]) -> Tape
     ensures { AllPlayed (lent (fresh_counters NlsPlus) rows.old lines.old) (R.remaining input.old)
