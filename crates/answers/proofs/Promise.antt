@@ -3,11 +3,11 @@
 -- Assumes nothing.
 use mathlib.Core.Path.{◌≡◌, refl, ap, sym, ◌∙◌}
 use Prim.Native.Nat.{ℕ}
-use Rattle.answers.specs.declared.Answer.{Answer}
-use Rattle.answers.specs.declared.Answer.TheVariants.{Done, NumberOutside, NumberBelow, NumberAbove, NoType, FieldBroken, NotDue}
-use Rattle.answers.specs.declared.Answer.TheVariants.{NotListed, NoLine, LineDead, LineDiffers, KeyUsed, LinesFull, ListingBroken}
-use Rattle.answers.specs.declared.Answer.TheVariants.{ListingLate, ListedAlready, RowsFull, Unsound, NoSpace}
-use Rattle.answers.specs.Answers.{number_of, answer_of}
+use Rattle.std.specs.Prelude.{Ok, Err}
+use Rattle.answers.specs.declared.Refusal.TheVariants.{NumberOutside, NumberBelow, NumberAbove, NoType, FieldBroken, NotDue}
+use Rattle.answers.specs.declared.Refusal.TheVariants.{NotListed, NoLine, LineDead, LineDiffers, KeyUsed, LinesFull, ListingBroken}
+use Rattle.answers.specs.declared.Refusal.TheVariants.{ListingLate, ListedAlready, RowsFull, Unsound, NoSpace}
+use Rattle.answers.specs.Answers.{Answer, number_of, answer_of}
 use Rattle.answers.proofs.number.Reads as number-reads
 
 pub number_one : (a e e' : Answer) (r r' : ℕ) → number-reads.Learnt tt (a, tt) r (e, tt)
@@ -15,25 +15,25 @@ pub number_one : (a e e' : Answer) (r r' : ℕ) → number-reads.Learnt tt (a, t
 number_one a e e' r r' h h' = h ∙ sym h'
 
 number_back : (a : Answer) → answer_of (number_of a) ≡ a
-number_back Done = refl
-number_back NumberOutside = refl
-number_back NumberBelow = refl
-number_back NumberAbove = refl
-number_back NoType = refl
-number_back FieldBroken = refl
-number_back NotDue = refl
-number_back NotListed = refl
-number_back NoLine = refl
-number_back LineDead = refl
-number_back LineDiffers = refl
-number_back KeyUsed = refl
-number_back LinesFull = refl
-number_back ListingBroken = refl
-number_back ListingLate = refl
-number_back ListedAlready = refl
-number_back RowsFull = refl
-number_back Unsound = refl
-number_back NoSpace = refl
+number_back (Ok tt) = refl
+number_back (Err NumberOutside) = refl
+number_back (Err NumberBelow) = refl
+number_back (Err NumberAbove) = refl
+number_back (Err NoType) = refl
+number_back (Err FieldBroken) = refl
+number_back (Err NotDue) = refl
+number_back (Err NotListed) = refl
+number_back (Err NoLine) = refl
+number_back (Err LineDead) = refl
+number_back (Err LineDiffers) = refl
+number_back (Err KeyUsed) = refl
+number_back (Err LinesFull) = refl
+number_back (Err ListingBroken) = refl
+number_back (Err ListingLate) = refl
+number_back (Err ListedAlready) = refl
+number_back (Err RowsFull) = refl
+number_back (Err Unsound) = refl
+number_back (Err NoSpace) = refl
 
 -- no two answers share a number
 pub one_number_each : (a b : Answer) → number_of a ≡ number_of b → a ≡ b

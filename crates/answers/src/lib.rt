@@ -1,12 +1,12 @@
-// The answers of every call, one for each number of the table.
+// The answers of every call: that it is done, or why it is refused.
 #![tactic(auto)]
 
 ghost use Rattle.std.specs.Prelude.{◌≡◌};
-ghost use Rattle.answers.specs.Answers.{number_of};
+ghost use Rattle.answers.specs.Answers.{refusal_number, number_of};
 
-#[derive(Clone, Copy)]
-pub enum Answer {
-    Done,
+// Why a call is refused, one for each number of the table but 0, which says that it is done.
+#[derive(Clone, Copy, Debug, PartialEq, Eq)]
+pub enum Refusal {
     NumberOutside,
     NumberBelow,
     NumberAbove,
@@ -27,29 +27,40 @@ pub enum Answer {
     NoSpace,
 }
 
+// The refusal's number in the table.
+impl From<Refusal> for u8 {
+    ghost from_gives = { λ refusal n. n ≡ refusal_number refusal };
+
+    fn from(refusal: Refusal) -> u8 {
+        match refusal {
+            Refusal::NumberOutside => 1,
+            Refusal::NumberBelow => 2,
+            Refusal::NumberAbove => 3,
+            Refusal::NoType => 4,
+            Refusal::FieldBroken => 5,
+            Refusal::NotDue => 6,
+            Refusal::NotListed => 7,
+            Refusal::NoLine => 8,
+            Refusal::LineDead => 9,
+            Refusal::LineDiffers => 10,
+            Refusal::KeyUsed => 11,
+            Refusal::LinesFull => 12,
+            Refusal::ListingBroken => 13,
+            Refusal::ListingLate => 14,
+            Refusal::ListedAlready => 15,
+            Refusal::RowsFull => 16,
+            Refusal::Unsound => 17,
+            Refusal::NoSpace => 18,
+        }
+    }
+}
+
 // The answer's number in the table.
-pub fn number(a: Answer) -> u8
-    ensures { result ≡ number_of a }
+pub fn number(answer: Result<(), Refusal>) -> u8
+    ensures { result ≡ number_of answer }
 {
-    match a {
-        Answer::Done => 0,
-        Answer::NumberOutside => 1,
-        Answer::NumberBelow => 2,
-        Answer::NumberAbove => 3,
-        Answer::NoType => 4,
-        Answer::FieldBroken => 5,
-        Answer::NotDue => 6,
-        Answer::NotListed => 7,
-        Answer::NoLine => 8,
-        Answer::LineDead => 9,
-        Answer::LineDiffers => 10,
-        Answer::KeyUsed => 11,
-        Answer::LinesFull => 12,
-        Answer::ListingBroken => 13,
-        Answer::ListingLate => 14,
-        Answer::ListedAlready => 15,
-        Answer::RowsFull => 16,
-        Answer::Unsound => 17,
-        Answer::NoSpace => 18,
+    match answer {
+        Ok(()) => 0,
+        Err(refusal) => u8::from(refusal),
     }
 }

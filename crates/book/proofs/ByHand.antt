@@ -2,6 +2,7 @@
 -- used up, and when it was not wanted. The figures are document 01's and come from no definition, so a call that is wrong in the code and
 -- in its promise alike is found here.
 -- Assumes nothing.
+use Rattle.std.specs.Prelude.{None, Option, Some, ℕ}
 use Prim.Native.Nat.{ℕ}
 use mathlib.Core.Path.{◌≡◌, refl}
 use mathlib.Core.List.{List, [], ◌∷◌}
@@ -21,9 +22,6 @@ use Rattle.lines.specs.declared.Line.{Line}
 use Rattle.lines.specs.Lines as Lines
 use Rattle.rows.specs.declared.Listing.{Listing}
 use Rattle.rows.specs.declared.Row.{Row}
-use Rattle.rows.specs.declared.Summary.TheVariants.{NoSummary}
-use Rattle.rows.specs.declared.Reported.{Reported}
-use Rattle.rows.specs.declared.Reported.TheVariants.{NotSet, Volume}
 use Rattle.rows.specs.Rows as Rows
 use Rattle.counters.specs.declared.Counters.{Counters}
 use Rattle.counters.specs.Counting as Counting
@@ -99,8 +97,8 @@ abbrev counted : Edition → ℕ → ℕ → ℕ → ℕ → ℕ → Counters
 counted e wanted phase rows lines taken =
     record { start = started_for e; wanted = wanted; phase = phase; rows = rows; lines = lines; taken = taken }
 
-abbrev row : Reported → Row
-row reported = record { listing = listing; summary = NoSummary; reported = reported }
+abbrev row : Option ℕ → Row
+row reported = record { listing = listing; summary = None; reported = reported }
 
 -- the trade's line, whose place is its number, 2
 abbrev line : Bool → Line
@@ -122,28 +120,28 @@ begun e = after (opened e) event done
 abbrev traded : Edition → State
 traded e = after (begun e) trade done
 
-abbrev before : Edition → Reported → Left
+abbrev before : Edition → Option ℕ → Left
 before e v = record { counters = counted e 3 1 1 1 2; rows = row v ∷ []; lines = line true ∷ [] }
 
 -- a listing; an event, a trade and its cancel taken
-pub moves : (left (opened NlsPlus) ≡ record { counters = counted NlsPlus 1 0 1 0 0; rows = row NotSet ∷ []; lines = [] })
-    × (left (begun NlsPlus) ≡ record { counters = counted NlsPlus 2 1 1 0 1; rows = row NotSet ∷ []; lines = [] })
-    × (left (traded NlsPlus) ≡ before NlsPlus (Volume 7))
+pub moves : (left (opened NlsPlus) ≡ record { counters = counted NlsPlus 1 0 1 0 0; rows = row None ∷ []; lines = [] })
+    × (left (begun NlsPlus) ≡ record { counters = counted NlsPlus 2 1 1 0 1; rows = row None ∷ []; lines = [] })
+    × (left (traded NlsPlus) ≡ before NlsPlus (Some 7))
     × (left (after (traded NlsPlus) cancel done)
-    ≡ record { counters = counted NlsPlus 4 1 1 1 3; rows = row (Volume 9) ∷ []; lines = line false ∷ [] })
+    ≡ record { counters = counted NlsPlus 4 1 1 1 3; rows = row (Some 9) ∷ []; lines = line false ∷ [] })
 unfolding left
 moves = (refl, refl, refl, refl)
 
 -- the same in a PLS book, whose messages report no volume: the row stays as it was listed
-pub unreported : (left (traded Pls) ≡ before Pls NotSet)
+pub unreported : (left (traded Pls) ≡ before Pls None)
     × (left (after (traded Pls) cancel done)
-    ≡ record { counters = counted Pls 4 1 1 1 3; rows = row NotSet ∷ []; lines = line false ∷ [] })
+    ≡ record { counters = counted Pls 4 1 1 1 3; rows = row None ∷ []; lines = line false ∷ [] })
 unfolding left
 unreported = (refl, refl)
 
 -- the cancel refused: by 10, which uses its number up, and by 3, which does not
 pub stays : (left (after (traded NlsPlus) cancel (spends 10 true))
-    ≡ record { counters = counted NlsPlus 4 1 1 1 2; rows = row (Volume 7) ∷ []; lines = line true ∷ [] })
-    × (left (after (traded NlsPlus) cancel (says 3 true)) ≡ before NlsPlus (Volume 7))
+    ≡ record { counters = counted NlsPlus 4 1 1 1 2; rows = row (Some 7) ∷ []; lines = line true ∷ [] })
+    × (left (after (traded NlsPlus) cancel (says 3 true)) ≡ before NlsPlus (Some 7))
 unfolding left
 stays = (refl, refl)

@@ -9,7 +9,7 @@ use Rattle.editions.specs.declared.Edition.{Edition}
 use Rattle.counters.specs.declared.Counters.{Counters}
 use Rattle.book.specs.declared.Said.{Said}
 use Rattle.book.specs.declared.Shown.{Shown}
-use Rattle.answers.specs.declared.Answer.{Answer}
+use Rattle.answers.specs.Answers.{Answer}
 use Rattle.answers.proofs.Promise.{one_number_each}
 use Rattle.rows.specs.declared.Listing.{Listing}
 use Rattle.book.specs.State.{State, lent, Outcome, leaving, Arrival, arrives}

@@ -1,5 +1,6 @@
 -- From what each call works out, branch by branch, to what it promises.
 -- Assumes nothing.
+use Rattle.std.specs.Prelude.{None, Some}
 use mathlib.Core.Path.{◌≡◌, refl, ap, sym, ◌∙◌}
 use mathlib.Core.Bool.{Bool, true, false, cond, not, ◌&&◌, ◌||◌}
 use mathlib.Core.List.{List}
@@ -9,13 +10,11 @@ use borrow.Author.Tests.{eq-eqb, ne_eqb, leb-true, leb-false, lt-ltb, le-ltb}
 use lib.Dec.{ltb, leb}
 use lib.ListN.{length}
 use Rattle.texts.specs.Text.{text}
-use Rattle.answers.specs.Answers.{number_of, answer_of}
+use Rattle.answers.specs.Answers.{Answer, number_of, answer_of}
 use Rattle.answers.specs.Cases.{Case, given}
 use Rattle.answers.proofs.Cases.{picked, picked_is}
-use Rattle.answers.specs.declared.Answer.{Answer}
-use Rattle.message.specs.declared.Reading.{Reading}
+use Rattle.message.specs.Reader.{Reading}
 use Rattle.records.specs.declared.Record.{Record}
-use Rattle.cells.specs.declared.Found.TheVariants.{Nothing, At}
 use Rattle.editions.specs.declared.Edition.{Edition}
 use Rattle.kinds.specs.declared.Kind.{Kind}
 use Rattle.kinds.specs.Kinds.{is_event, names_old}
@@ -90,13 +89,13 @@ module _ (s : State) (l : Listing) where
       list_late e = told 14 (rw (h, broken_is (text l.symbol) l.close close_top true k, ne_eqb (wanted_in s) 1 e))
 
       module _ (w : wanted_in s ≡ 1) where
-        pub list_there : (i : ℕ) → listing_of l.symbol (sheet_of s) ≡ At i → answer_of 15 ≡ answer_of (list_answer s l)
+        pub list_there : (i : ℕ) → listing_of l.symbol (sheet_of s) ≡ Some i → answer_of 15 ≡ answer_of (list_answer s l)
         unfolding list_table
         list_there i e =
             let f : is_listed l.symbol (sheet_of s) ≡ true = ap is_found e in
             told 15 (rw (h, broken_is (text l.symbol) l.close close_top true k, eq-eqb (wanted_in s) 1 w, f))
 
-        pub list_new : listing_of l.symbol (sheet_of s) ≡ Nothing → (b : Bool) → leb (row_limit (length s.rows)) s.counters.rows ≡ b
+        pub list_new : listing_of l.symbol (sheet_of s) ≡ None → (b : Bool) → leb (row_limit (length s.rows)) s.counters.rows ≡ b
             → answer_of (cond b 16 0) ≡ answer_of (list_answer s l)
         unfolding list_table
         list_new e b g =
@@ -267,11 +266,11 @@ module _ (s : State) (symbol : List ℕ) where
   unfolding located
   locate_unsound h = rw (row_picked, h)
 
-  pub locate_none : sound_in s ≡ true → listing_of symbol (sheet_of s) ≡ Nothing → record { answer = answer_of 7; row = 0 } ≡ located s symbol
+  pub locate_none : sound_in s ≡ true → listing_of symbol (sheet_of s) ≡ None → record { answer = answer_of 7; row = 0 } ≡ located s symbol
   unfolding located
   locate_none h f = rw (row_picked, h, f)
 
-  pub locate_there : (i : ℕ) → sound_in s ≡ true → listing_of symbol (sheet_of s) ≡ At i
+  pub locate_there : (i : ℕ) → sound_in s ≡ true → listing_of symbol (sheet_of s) ≡ Some i
       → record { answer = answer_of 0; row = i } ≡ located s symbol
   unfolding located
   locate_there i h f = rw (row_picked, h, f)

@@ -5,8 +5,7 @@ use Rattle.texts.specs.Text.{text}
 use Rattle.answers.specs.Answers.{answer_of}
 use Rattle.answers.specs.Cases.{Case, says, given, in_book}
 use Rattle.records.specs.declared.Record.{Record}
-use Rattle.message.specs.declared.Reading.{Reading}
-use Rattle.message.specs.Reader.{read_of}
+use Rattle.message.specs.Reader.{Reading, read_of}
 use Rattle.lines.specs.Lines.{line_with}
 use Rattle.rules.specs.Rules.{price_top}
 use Rattle.rows.specs.declared.Listing.{Listing}

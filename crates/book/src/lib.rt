@@ -10,7 +10,6 @@ ghost use Rattle.book.specs.State.{lent, leaving, arrives};
 ghost use Rattle.book.specs.Calls.{list_answer, listed, number_cases, delivered, located, shown};
 
 use answers::Answer;
-use cells::Found;
 use counters::Counters;
 use editions::Edition;
 use kinds::kind_of;
@@ -64,14 +63,14 @@ fn judge_listing(c: Counters, rows: &[u8], lines: &[u8], l: Listing) -> Answer
         return Answer::ListingLate;
     }
     match rows::find(rows, c.rows, symbol) {
-        Found::Nothing => {
+        None => {
             if rows::limit(rows.len()) <= c.rows {
                 Answer::RowsFull
             } else {
                 Answer::Done
             }
         }
-        Found::At(i) => Answer::ListedAlready,
+        Some(i) => Answer::ListedAlready,
     }
 }
 
@@ -154,13 +153,13 @@ fn find_row(c: Counters, rows: &[u8], lines: &[u8], symbol: [u8; 8]) -> Located
 {
     if is_sound(c, rows.len(), lines.len()) {
         match rows::find(rows, c.rows, symbol) {
-            Found::Nothing => {
+            None => {
                 Located {
                     answer: Answer::NotListed,
                     row: 0,
                 }
             }
-            Found::At(i) => {
+            Some(i) => {
                 Located {
                     answer: Answer::Done,
                     row: i,

@@ -1,5 +1,6 @@
 -- What the call inside says of the values that were taken from words and bytes is what the exported one says of the words and bytes.
 -- Assumes nothing.
+use Rattle.std.specs.Prelude.{None, Option, Some}
 use Prim.Native.Nat.{ℕ}
 use mathlib.Core.Path.{◌≡◌, refl, ap, sym, ◌∙◌}
 use mathlib.Core.List.{List}
@@ -13,8 +14,6 @@ use Rattle.book.specs.declared.Said.{Said}
 use Rattle.book.specs.declared.Shown.{Shown}
 use Rattle.book.specs.State.{State, lent, Outcome, leaving, Arrival}
 use Rattle.book.specs.Calls.{listed, delivered, shown}
-use Rattle.words.specs.declared.Meant.{Meant}
-use Rattle.words.specs.declared.Meant.TheVariants.{Book, NoBook}
 use Rattle.words.specs.Words.{counters_of, counter_words, row_count, row_words}
 use Rattle.words.proofs.Again.{counters_again}
 use Rattle.cabinet.specs.Crossing.{Held, holding, held_of, crossed, crossing, called_on, listed_from, delivered_from, shown_on, shown_from}
@@ -26,7 +25,7 @@ told_crosses o a w n p = rw (n, p)
 
 -- ---- words that are a book's
 
-module _ (h : Held) (c : Counters) (e : counters_of h.words ≡ Book c) where
+module _ (h : Held) (c : Counters) (e : counters_of h.words ≡ Some c) where
   -- the book that the words and the rooms are
   abbrev here : State
   here = lent c h.rows h.lines
@@ -36,7 +35,7 @@ module _ (h : Held) (c : Counters) (e : counters_of h.words ≡ Book c) where
     called : (call : State → Outcome) → leaving t rows lines ≡ call here
         → crossed a (holding w rows lines) ≡ called_on (counters_of h.words) call h
     called call q =
-        told_crosses (leaving t rows lines) a w n p ∙ ap crossing q ∙ ap (λ (m : Meant). called_on m call h) (sym e)
+        told_crosses (leaving t rows lines) a w n p ∙ ap crossing q ∙ ap (λ (m : Option Counters). called_on m call h) (sym e)
 
     pub list_said : (l given : Listing) → given ≡ l → leaving t rows lines ≡ listed here given
         → crossed a (holding w rows lines) ≡ listed_from h l
@@ -53,7 +52,7 @@ module _ (h : Held) (c : Counters) (e : counters_of h.words ≡ Book c) where
       → (a ≡ number_of (shown_from h symbol).answer) × (w ≡ row_words (shown_from h symbol).row)
   unfolding shown_from
   row_said symbol r a w q p n =
-      let s = q ∙ ap (λ (m : Meant). shown_on m h symbol) (sym e) in
+      let s = q ∙ ap (λ (m : Option Counters). shown_on m h symbol) (sym e) in
       (n ∙ ap (λ (x : Shown). number_of x.answer) s, p ∙ ap (λ (x : Shown). row_words x.row) s)
 
 -- ---- words that are no book's: the number 17 was handed on, and nothing was changed
@@ -62,9 +61,9 @@ pub nothing_words : row_words nothing_shown ≡ replicate row_count 0
 unfolding row_words be
 nothing_words = refl
 
-module _ (h : Held) (e : counters_of h.words ≡ NoBook) (a : ℕ) (n : a ≡ 17) where
+module _ (h : Held) (e : counters_of h.words ≡ None) (a : ℕ) (n : a ≡ 17) where
   uncalled : (call : State → Outcome) → crossed a h ≡ called_on (counters_of h.words) call h
-  uncalled call = ap (λ (x : ℕ). crossed x h) n ∙ ap (λ (m : Meant). called_on m call h) (sym e)
+  uncalled call = ap (λ (x : ℕ). crossed x h) n ∙ ap (λ (m : Option Counters). called_on m call h) (sym e)
 
   pub list_none : (l : Listing) → crossed a h ≡ listed_from h l
   unfolding listed_from
@@ -78,19 +77,19 @@ module _ (h : Held) (e : counters_of h.words ≡ NoBook) (a : ℕ) (n : a ≡ 17
       → (a ≡ number_of (shown_from h symbol).answer) × (replicate row_count 0 ≡ row_words (shown_from h symbol).row)
   unfolding shown_from
   row_none symbol =
-      let s = ap (λ (m : Meant). shown_on m h symbol) (sym e) in
+      let s = ap (λ (m : Option Counters). shown_on m h symbol) (sym e) in
       (n ∙ ap (λ (x : Shown). number_of x.answer) s, sym nothing_words ∙ ap (λ (x : Shown). row_words x.row) s)
 
 -- ---- what is held of a book: the calls are those on the book
 
 pub listed_book_lem : (s : State) (l : Listing) → listed_from (held_of s) l ≡ crossing (listed s l)
 unfolding listed_from
-listed_book_lem s l = ap (λ (m : Meant). called_on m (λ t. listed t l) (held_of s)) (counters_again s.counters)
+listed_book_lem s l = ap (λ (m : Option Counters). called_on m (λ t. listed t l) (held_of s)) (counters_again s.counters)
 
 pub delivered_book : (s : State) (d : Arrival) → delivered_from (held_of s) d ≡ crossing (delivered s d)
 unfolding delivered_from
-delivered_book s d = ap (λ (m : Meant). called_on m (λ t. delivered t d) (held_of s)) (counters_again s.counters)
+delivered_book s d = ap (λ (m : Option Counters). called_on m (λ t. delivered t d) (held_of s)) (counters_again s.counters)
 
 pub shown_book : (s : State) (symbol : List ℕ) → shown_from (held_of s) symbol ≡ shown s symbol
 unfolding shown_from
-shown_book s symbol = ap (λ (m : Meant). shown_on m (held_of s) symbol) (counters_again s.counters)
+shown_book s symbol = ap (λ (m : Option Counters). shown_on m (held_of s) symbol) (counters_again s.counters)

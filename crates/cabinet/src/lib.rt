@@ -18,10 +18,9 @@ ghost use Rattle.cabinet.specs.Crossing.{holding, listing_with, crossed, listed_
 ghost use Rattle.cabinet.specs.Crossing.{read_by, write_answer_by, write_out_by, ListTyped, DeliverTyped};
 
 use answers::Answer;
-use editions::{Named, edition_of};
+use editions::edition_of;
 use records::packed::letter;
 use rows::Listing;
-use words::Meant;
 
 // The number of an answer in the table: what every call but the first and the last tells.
 fn told(a: Answer) -> u8
@@ -66,8 +65,8 @@ pub fn sorundappa_list(
     let name = *symbol;
     let l = listing(name, close);
     match words::counters(held) {
-        Meant::NoBook => told(Answer::Unsound),
-        Meant::Book(before) => {
+        None => told(Answer::Unsound),
+        Some(before) => {
             let s = book::list(before, rows, lines, l);
             let a = s.answer;
             let listed = s.counters;
@@ -92,8 +91,8 @@ pub fn sorundappa_deliver(
 {
     let held = *counters;
     match words::counters(held) {
-        Meant::NoBook => told(Answer::Unsound), // and no number is used up
-        Meant::Book(before) => {
+        None => told(Answer::Unsound), // and no number is used up
+        Some(before) => {
             let s = book::deliver(before, rows, lines, number, message);
             let a = s.answer;
             let after = s.counters;
@@ -121,11 +120,11 @@ pub fn sorundappa_row(
     let held = *counters;
     let name = *symbol;
     match words::counters(held) {
-        Meant::NoBook => {
+        None => {
             *row = [0; words::ROW];
             told(Answer::Unsound)
         }
-        Meant::Book(c) => {
+        Some(c) => {
             let s = book::row(c, rows, lines, name);
             let a = s.answer;
             let shown = s.row;
@@ -142,11 +141,11 @@ pub fn sorundappa_read(edition: u64, message: &[u8], out: &mut [u8; records::REC
         ≡ record_bytes (read_by (edition_named edition) message.now).found }
 {
     match edition_of(edition) {
-        Named::Unknown => {
+        None => {
             *out = [0u8; records::RECORD];
             told(Answer::NoType)
         }
-        Named::Known(e) => {
+        Some(e) => {
             let a = message::read_packed(e, message, out);
             told(a)
         }
@@ -172,11 +171,11 @@ pub fn sorundappa_write(edition: u64, bytes: &[u8; records::RECORD], out: &mut [
     ensures types { RecordFits (record_of bytes.now) }
 {
     match edition_of(edition) {
-        Named::Unknown => {
+        None => {
             let a = unwritten(bytes);
             told(a)
         }
-        Named::Known(e) => {
+        Some(e) => {
             let a = message::write_packed(e, bytes, out);
             told(a)
         }

@@ -2,13 +2,12 @@
 -- every call on a book, and nothing changes; a start with one gives such words; a message alone is then read with 4 and written with 5.
 -- And the edition's word of a book stays what it was, whatever is called.
 -- Assumes nothing.
+use Rattle.std.specs.Prelude.{None, Option, Some}
 use Prim.Native.Nat.{ℕ}
 use mathlib.Core.Path.{◌≡◌, refl, ap, sym, ◌∙◌}
 use mathlib.Core.List.{List}
 use lib.ListN.{get_or, replicate}
 use Rattle.answers.specs.Answers.{number_of}
-use Rattle.editions.specs.declared.Named.{Named}
-use Rattle.editions.specs.declared.Named.TheVariants.{Unknown}
 use Rattle.editions.specs.Editions.{edition_number, edition_named}
 use Rattle.counters.specs.declared.Start.{Start}
 use Rattle.counters.specs.declared.Counters.{Counters}
@@ -18,8 +17,6 @@ use Rattle.book.specs.declared.Shown.{Shown}
 use Rattle.book.specs.State.{State, Outcome}
 use Rattle.book.specs.Calls.{listed, delivered}
 use Rattle.upheld.proofs.EditionStays as Inside
-use Rattle.words.specs.declared.Meant.{Meant}
-use Rattle.words.specs.declared.Meant.TheVariants.{Book, NoBook}
 use Rattle.words.specs.Words.{counter_words, edition_at, counters_of, row_count, row_words}
 use Rattle.words.proofs.Again.{no_book, fresh_unknown, edition_word}
 use Rattle.cabinet.specs.Crossing.{Held, Crossed, crossed, crossing, called_on, listed_from, delivered_from, shown_on, shown_from}
@@ -36,17 +33,18 @@ use Rattle.cabinet.proofs.sorundappa_deliver.Reads as deliver-reads
 use Rattle.cabinet.proofs.sorundappa_row.Reads as row_reads
 use Rattle.cabinet.proofs.sorundappa_read.Reads as read-reads
 use Rattle.cabinet.proofs.sorundappa_write.Reads as write-reads
+use Rattle.editions.specs.declared.Edition.{Edition}
 
 -- the edition's word of what is held names none
 abbrev pub Strange : Held → Type 0
-Strange h = edition_named (get_or h.words edition_at 0) ≡ Unknown
+Strange h = edition_named (get_or h.words edition_at 0) ≡ None
 
 -- ---- no edition's number
 
 pub record UnknownRefused : Type 1 where
   -- a start cannot be refused: its words are no book's
   pub start : (κs : StartLfts) (a : StartArgs κs) (x : StartExit κs) → start-reads.Learnt κs a tt x
-      → edition_named (start_given κs a) ≡ Unknown → counters_of (start_left κs x) ≡ NoBook
+      → edition_named (start_given κs a) ≡ None → counters_of (start_left κs x) ≡ None
   -- the calls on a book: 17, and everything is as it was
   pub list : (κs : ListLfts) (a : ListArgs κs) (r : ℕ) (x : ListExit κs) → list-reads.Learnt κs a r x
       → Strange (list_from κs a) → (r ≡ 17) × (list_left κs a x ≡ list_from κs a)
@@ -57,15 +55,15 @@ pub record UnknownRefused : Type 1 where
       → Strange (row_from κs a) → (r ≡ 17) × (row_left κs x ≡ replicate row_count 0)
   -- a message alone: 4 and a record of zeros; 5, and the space is as it was
   pub read : (κs : ReadLfts) (a : ReadArgs κs) (r : ℕ) (x : ReadExit κs) → read-reads.Learnt κs a r x
-      → edition_named (read_edition κs a) ≡ Unknown → (r ≡ 4) × (read_left κs x ≡ replicate record_length 0)
+      → edition_named (read_edition κs a) ≡ None → (r ≡ 4) × (read_left κs x ≡ replicate record_length 0)
   pub write : (κs : WriteLfts) (a : WriteArgs κs) (r : ℕ) (x : WriteExit κs) → write-reads.Learnt κs a r x
-      → edition_named (write_edition κs a) ≡ Unknown → (r ≡ 5) × (write_left κs x ≡ write_from κs a)
+      → edition_named (write_edition κs a) ≡ None → (r ≡ 5) × (write_left κs x ≡ write_from κs a)
 
 -- what a call of such words hands back
 uncalled : (call : State → Outcome) (h : Held) (r : ℕ) (left : Held) → crossed r left ≡ called_on (counters_of h.words) call h → Strange h
     → (r ≡ 17) × (left ≡ h)
 uncalled call h r left q e =
-    let n = q ∙ ap (λ (m : Meant). called_on m call h) (no_book h.words e) in
+    let n = q ∙ ap (λ (m : Option Counters). called_on m call h) (no_book h.words e) in
     (ap (λ (c : Crossed). c.answer) n, ap (λ (c : Crossed). c.left) n)
 
 list_strange : (κs : ListLfts) (a : ListArgs κs) (r : ℕ) (x : ListExit κs) → list-reads.Learnt κs a r x
@@ -82,7 +80,7 @@ row_strange : (κs : RowLfts) (a : RowArgs κs) (r : ℕ) (x : RowExit κs) → 
     → Strange (row_from κs a) → (r ≡ 17) × (row_left κs x ≡ replicate row_count 0)
 unfolding shown_from
 row_strange κs a r x h e =
-    let q = ap (λ (m : Meant). shown_on m (row_from κs a) (row_asked κs a)) (no_book (row_from κs a).words e) in
+    let q = ap (λ (m : Option Counters). shown_on m (row_from κs a) (row_asked κs a)) (no_book (row_from κs a).words e) in
     (h.0 ∙ ap (λ (s : Shown). number_of s.answer) q, h.1 ∙ ap (λ (s : Shown). row_words s.row) q ∙ nothing_words)
 
 pub unknown_refused : UnknownRefused
@@ -94,13 +92,13 @@ unknown_refused =
       row = row_strange;
       read =
           λ κs a r x h e. (
-            h.0 ∙ ap (λ (n : Named). number_of (read_by n (read_message κs a)).answer) e,
-            h.1 ∙ ap (λ (n : Named). record_bytes (read_by n (read_message κs a)).found) e ∙ no_bytes,
+            h.0 ∙ ap (λ (n : Option Edition). number_of (read_by n (read_message κs a)).answer) e,
+            h.1 ∙ ap (λ (n : Option Edition). record_bytes (read_by n (read_message κs a)).found) e ∙ no_bytes,
           );
       write =
           λ κs a r x h e. (
-            h.0 ∙ ap (λ (n : Named). number_of (write_answer_by n (record_of (write_given κs a)) (write_from κs a))) e,
-            h.1.0 ∙ ap (λ (n : Named). write_out_by n (record_of (write_given κs a)) (write_from κs a)) e,
+            h.0 ∙ ap (λ (n : Option Edition). number_of (write_answer_by n (record_of (write_given κs a)) (write_from κs a))) e,
+            h.1.0 ∙ ap (λ (n : Option Edition). write_out_by n (record_of (write_given κs a)) (write_from κs a)) e,
           );
     }
 
@@ -127,14 +125,14 @@ stays : (call : State → Outcome) → ((s : State) → (call s).state.counters.
     → crossed r left ≡ called_on (counters_of h.words) call h → edition_in left ≡ edition_in h
 stays call keeps h r left q = go (counters_of h.words) refl
   where
-    go : (m : Meant) → counters_of h.words ≡ m → edition_in left ≡ edition_in h
-    go (Book c) e =
-        let n = q ∙ ap (λ (m : Meant). called_on m call h) e in
+    go : (m : Option Counters) → counters_of h.words ≡ m → edition_in left ≡ edition_in h
+    go (Some c) e =
+        let n = q ∙ ap (λ (m : Option Counters). called_on m call h) e in
         ap (λ (y : Crossed). edition_in y.left) n
         ∙ word_is _
         ∙ ap (λ (t : Start). edition_number t.edition) (keeps _)
         ∙ edition_word h.words c e
-    go NoBook e = ap (λ (y : Crossed). edition_in y.left) (q ∙ ap (λ (m : Meant). called_on m call h) e)
+    go None e = ap (λ (y : Crossed). edition_in y.left) (q ∙ ap (λ (m : Option Counters). called_on m call h) e)
 
 list_stays : (κs : ListLfts) (a : ListArgs κs) (r : ℕ) (x : ListExit κs) → list-reads.Learnt κs a r x
     → edition_in (list_left κs a x) ≡ edition_in (list_from κs a)

@@ -2,6 +2,7 @@
 -- message is read back as the record that those bytes are and each field of it stands at its place; the bytes past the message stay, and
 -- where it answers otherwise every byte does. And of a reading whose record is then written, by one edition: the record always comes back.
 -- Assumes nothing.
+use Rattle.std.specs.Prelude.{None, Option, Some}
 use Prim.Native.Nat.{ℕ, ◌≤◌}
 use mathlib.Core.Path.{◌≡◌, refl, ap, sym, subst, ◌∙◌}
 use mathlib.Core.Bool.{Bool, true, false}
@@ -13,8 +14,6 @@ use Rattle.octets.specs.Run.{Bytes}
 use Rattle.answers.specs.Answers.{number_of}
 use Rattle.editions.specs.declared.Edition.{Edition}
 use Rattle.editions.specs.declared.Edition.TheVariants.{NlsPlus}
-use Rattle.editions.specs.declared.Named.{Named}
-use Rattle.editions.specs.declared.Named.TheVariants.{Known, Unknown}
 use Rattle.editions.specs.Editions.{edition_named}
 use Rattle.layout.specs.Tables.{field_of, stands, Each}
 use Rattle.records.specs.declared.Record.{Record}
@@ -48,12 +47,12 @@ module _ (κs : WriteLfts) (a : WriteArgs κs) (r : ℕ) (x : WriteExit κs) (h 
 
   -- ---- by an edition
 
-  module _ (e : Edition) (q : edition_named (write_edition κs a) ≡ Known e) where
+  module _ (e : Edition) (q : edition_named (write_edition κs a) ≡ Some e) where
     said : r ≡ number_of (write_answer e meant before)
-    said = h.0 ∙ ap (λ (n : Named). number_of (write_answer_by n meant before)) q
+    said = h.0 ∙ ap (λ (n : Option Edition). number_of (write_answer_by n meant before)) q
 
     left : after ≡ write_out e meant before
-    left = h.1.0 ∙ ap (λ (n : Named). write_out_by n meant before) q
+    left = h.1.0 ∙ ap (λ (n : Option Edition). write_out_by n meant before) q
 
     -- how many bytes a message of the record's letter has; what is no type has none
     abbrev long : ℕ
@@ -102,16 +101,16 @@ module _ (κs : WriteLfts) (a : WriteArgs κs) (r : ℕ) (x : WriteExit κs) (h 
   pub kept : (r ≡ 0 → ⊥) → after ≡ before
   kept n = go (edition_named (write_edition κs a)) refl
     where
-      go : (m : Named) → edition_named (write_edition κs a) ≡ m → after ≡ before
-      go (Known e) q = stays e q n
-      go Unknown q = h.1.0 ∙ ap (λ (m : Named). write_out_by m meant before) q
+      go : (m : Option Edition) → edition_named (write_edition κs a) ≡ m → after ≡ before
+      go (Some e) q = stays e q n
+      go None q = h.1.0 ∙ ap (λ (m : Option Edition). write_out_by m meant before) q
 
 -- ---- there and back, of calls
 
 -- a message was read by an edition, and by the same edition the eighty bytes of its record were written into a room where it fits
 module _ (e : Edition) (κs : ReadLfts) (κs' : WriteLfts) (a : ReadArgs κs) (b : WriteArgs κs') (r : ℕ) (s : ReadExit κs) (w : ℕ)
     (x : WriteExit κs') (h : read-reads.Learnt κs a r s) (k : write-reads.Learnt κs' b w x)
-    (by : edition_named (read_edition κs a) ≡ Known e) (also : edition_named (write_edition κs' b) ≡ Known e)
+    (by : edition_named (read_edition κs a) ≡ Some e) (also : edition_named (write_edition κs' b) ≡ Some e)
     (same : write_given κs' b ≡ read_left κs s) (m : Bytes (read_message κs a)) (z : r ≡ 0)
     (room : length (read_message κs a) ≤ length (write_from κs' b)) where
   abbrev message : List ℕ
@@ -124,12 +123,12 @@ module _ (e : Edition) (κs : ReadLfts) (κs' : WriteLfts) (a : ReadArgs κs) (b
   found = (read_of e message).found
 
   done : number_of (read_of e message).answer ≡ 0
-  done = ap (λ (n : Named). number_of (read_by n message).answer) (sym by) ∙ sym h.0 ∙ z
+  done = ap (λ (n : Option Edition). number_of (read_by n message).answer) (sym by) ∙ sym h.0 ∙ z
 
   -- the record that is written is the one that was read
   carried : record_of (write_given κs' b) ≡ found
   carried =
-      ap record_of (same ∙ h.1 ∙ ap (λ (n : Named). record_bytes (read_by n message).found) by)
+      ap record_of (same ∙ h.1 ∙ ap (λ (n : Option Edition). record_bytes (read_by n message).found) by)
       ∙ record_again found (read_fits e message m)
 
   told : w ≡ number_of (write_answer e found out)
@@ -151,7 +150,7 @@ module _ (e : Edition) (κs : ReadLfts) (κs' : WriteLfts) (a : ReadArgs κs) (b
 -- by NLS Plus the same bytes always come back
 pub written_back : (κs : ReadLfts) (κs' : WriteLfts) (a : ReadArgs κs) (b : WriteArgs κs') (r : ℕ) (s : ReadExit κs) (w : ℕ)
     (x : WriteExit κs') → read-reads.Learnt κs a r s → write-reads.Learnt κs' b w x
-    → edition_named (read_edition κs a) ≡ Known NlsPlus → edition_named (write_edition κs' b) ≡ Known NlsPlus
+    → edition_named (read_edition κs a) ≡ Some NlsPlus → edition_named (write_edition κs' b) ≡ Some NlsPlus
     → write_given κs' b ≡ read_left κs s → Bytes (read_message κs a) → r ≡ 0 → length (read_message κs a) ≤ length (write_from κs' b)
     → (w ≡ 0) × (write_left κs' x ≡ read_message κs a ++ drop (length (read_message κs a)) (write_from κs' b))
 written_back κs κs' a b r s w x h k by also same m z room =

@@ -1,6 +1,7 @@
 -- The clerk by hand: the trades, the row and the largest count of small days, written down from document 01 and computed from his
 -- definitions. The days stand here as records, the newest first, so nothing is read from bytes.
 -- Assumes nothing.
+use Rattle.std.specs.Prelude.{None, Some}
 use Prim.Native.Nat.{ℕ, zero, suc, ◌*◌, ◌≤◌}
 use mathlib.Core.Path.{◌≡◌, refl}
 use mathlib.Core.List.Sublistᴰ
@@ -16,8 +17,7 @@ use Rattle.records.specs.declared.Sale.{Sale}
 use Rattle.records.specs.declared.Record.{Record}
 use Rattle.lines.specs.declared.Line.{Line}
 use Rattle.rows.specs.declared.Listing.{Listing}
-use Rattle.rows.specs.declared.Summary.TheVariants.{NoSummary, HighLow}
-use Rattle.rows.specs.declared.Reported.TheVariants.{NotSet, Volume}
+use Rattle.rows.specs.Rows.{high_low}
 use Rattle.clerk.specs.Arrivals.{run, Largest}
 use Rattle.clerk.specs.Clerk.{Taken, origin_of, trades_but, trades_of, summary_of, reported_of, row_of}
 
@@ -115,13 +115,13 @@ abbrev listing : Listing
 listing = record { symbol = abcd; close = 2500 }
 
 -- none; one; a later one replaces it; the volume is that of the latest of either
-pub rows : (row_of NlsPlus [] listing ≡ record { listing = listing; summary = NoSummary; reported = NotSet })
-    × (row_of NlsPlus (j 2 20 10 ∷ []) listing ≡ record { listing = listing; summary = HighLow 20 10; reported = Volume 2 })
-    × (row_of NlsPlus (j 3 30 15 ∷ j 2 20 10 ∷ []) listing ≡ record { listing = listing; summary = HighLow 30 15; reported = Volume 3 })
+pub rows : (row_of NlsPlus [] listing ≡ record { listing = listing; summary = None; reported = None })
+    × (row_of NlsPlus (j 2 20 10 ∷ []) listing ≡ record { listing = listing; summary = Some (high_low 20 10); reported = Some 2 })
+    × (row_of NlsPlus (j 3 30 15 ∷ j 2 20 10 ∷ []) listing ≡ record { listing = listing; summary = Some (high_low 30 15); reported = Some 3 })
     × (row_of NlsPlus (t 4 81 (sale 49 1 1) ∷ j 3 30 15 ∷ j 2 20 10 ∷ []) listing
-    ≡ record { listing = listing; summary = HighLow 30 15; reported = Volume 4 })
+    ≡ record { listing = listing; summary = Some (high_low 30 15); reported = Some 4 })
     -- in PLS no message reports
-    × (row_of Pls (t 2 81 (sale 49 1 1) ∷ []) listing ≡ record { listing = listing; summary = NoSummary; reported = NotSet })
+    × (row_of Pls (t 2 81 (sale 49 1 1) ∷ []) listing ≡ record { listing = listing; summary = None; reported = None })
 unfolding row_of summary_of reported_of Kinds.kind_of
 rows = (refl, refl, refl, refl, refl)
 

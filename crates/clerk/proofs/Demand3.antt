@@ -11,9 +11,8 @@ use borrow.Author.Tests.{eqb-true, eqb-false, eq-eqb, ne_eqb}
 use lib.Dec.{eqb}
 use lib.ListN.{length}
 use Rattle.octets.specs.Run.{Bytes}
-use Rattle.answers.specs.Answers.{number_of, answer_of}
+use Rattle.answers.specs.Answers.{Answer, number_of, answer_of}
 use Rattle.answers.specs.Cases.{given}
-use Rattle.answers.specs.declared.Answer.{Answer}
 use Rattle.answers.proofs.Promise.{one_number_each}
 use Rattle.editions.specs.declared.Edition.{Edition}
 use Rattle.lines.specs.declared.Line.{Line}

@@ -1,5 +1,6 @@
 -- Lists of texts and of lines: a text at most once, the first line that bears a key, a line made dead.
 -- Assumes nothing.
+use Rattle.std.specs.Prelude.{None, Option, Some, ℕ}
 use Prim.Native.Nat.{ℕ, suc}
 use mathlib.Core.Path.{◌≡◌, refl, sym, ap, subst, ◌∙◌}
 use mathlib.Core.Bool.{Bool, true, false, cond, ◌||◌, true≢false}
@@ -8,8 +9,6 @@ use borrow.Author.Tests.{not-false}
 use lib.ListN.{get_or}
 use Rattle.octets.specs.Run.{same}
 use Rattle.octets.proofs.Trips.{same_is}
-use Rattle.cells.specs.declared.Found.{Found}
-use Rattle.cells.specs.declared.Found.TheVariants.{Nothing, At}
 use Rattle.lines.specs.declared.Line.{Line}
 use Rattle.cells.specs.Search.{first}
 use Rattle.lines.specs.Lines.{bears, line_with, no_line}
@@ -97,9 +96,9 @@ no_repeat_turned xs d = subst NoRepeat (append-nil xs) (onto xs [] d)
 
 -- ---- the search, one step
 
-abbrev pub up : Found → Found
-up Nothing = Nothing
-up (At i) = At (suc i)
+abbrev pub up : Option ℕ → Option ℕ
+up None = None
+up (Some i) = Some (suc i)
 
 first_up : {A : Type 0} (serves : A → Bool) (xs : List A) (s : ℕ) → first serves xs (suc s) ≡ up (first serves xs s)
 unfolding first
@@ -107,11 +106,11 @@ first_up serves [] s = refl
 first_up serves (x ∷ xs) s = go (serves x) (first_up serves xs (suc s))
   where
     go : (t : Bool) → first serves xs (suc (suc s)) ≡ up (first serves xs (suc s))
-        → cond t (At (suc s)) (first serves xs (suc (suc s))) ≡ up (cond t (At s) (first serves xs (suc s)))
+        → cond t (Some (suc s)) (first serves xs (suc (suc s))) ≡ up (cond t (Some s) (first serves xs (suc s)))
     go true e = refl
     go false e = e
 
-pub first_hit : {A : Type 0} (serves : A → Bool) (x : A) (xs : List A) → serves x ≡ true → first serves (x ∷ xs) 0 ≡ At 0
+pub first_hit : {A : Type 0} (serves : A → Bool) (x : A) (xs : List A) → serves x ≡ true → first serves (x ∷ xs) 0 ≡ Some 0
 unfolding first
 first_hit serves x xs e = rw e
 
@@ -127,7 +126,7 @@ found_counted serves [] i j = refl
 found_counted serves (x ∷ xs) i j = go (serves x) (found_counted serves xs (suc i) (suc j))
   where
     go : (t : Bool) → is_found (first serves xs (suc i)) ≡ is_found (first serves xs (suc j))
-        → is_found (cond t (At i) (first serves xs (suc i))) ≡ is_found (cond t (At j) (first serves xs (suc j)))
+        → is_found (cond t (Some i) (first serves xs (suc i))) ≡ is_found (cond t (Some j) (first serves xs (suc j)))
     go true e = refl
     go false e = e
 
@@ -139,7 +138,7 @@ found_is text key [] = refl
 found_is text key (x ∷ xs) = go (same (text x) key) (found_counted (λ y. same (text y) key) xs 1 0 ∙ found_is text key xs)
   where
     go : (t : Bool) → is_found (first (λ y. same (text y) key) xs 1) ≡ is_in key (map text xs)
-        → is_found (cond t (At 0) (first (λ y. same (text y) key) xs 1)) ≡ (t || is_in key (map text xs))
+        → is_found (cond t (Some 0) (first (λ y. same (text y) key) xs 1)) ≡ (t || is_in key (map text xs))
     go true e = refl
     go false e = e
 
@@ -156,9 +155,9 @@ listed_is_in symbol sheet = found_is (λ (l : Listing). l.symbol) symbol sheet
 unfoldable pub named : List ℕ → List Line → Line
 named key ls = line_found ls (line_with key ls)
 
-found_up : (l : Line) (ls : List Line) (f : Found) → line_found (l ∷ ls) (up f) ≡ line_found ls f
-found_up l ls Nothing = refl
-found_up l ls (At i) = refl
+found_up : (l : Line) (ls : List Line) (f : Option ℕ) → line_found (l ∷ ls) (up f) ≡ line_found ls f
+found_up l ls None = refl
+found_up l ls (Some i) = refl
 
 pub named_hit : (key : List ℕ) (l : Line) (ls : List Line) → same l.key key ≡ true → named key (l ∷ ls) ≡ l
 unfolding named
@@ -191,9 +190,9 @@ pub named_live : (key : List ℕ) (ls : List Line) → is_found (line_with key l
 unfolding named
 named_live key ls b d = go (line_with key ls) b d
   where
-    go : (f : Found) → is_found f ≡ true → dead_at ls f ≡ false → (line_found ls f).live ≡ true
-    go Nothing b d = absurd (true≢false (sym b))
-    go (At i) b d = not-false (get_or ls i no_line).live d
+    go : (f : Option ℕ) → is_found f ≡ true → dead_at ls f ≡ false → (line_found ls f).live ≡ true
+    go None b d = absurd (true≢false (sym b))
+    go (Some i) b d = not-false (get_or ls i no_line).live d
 
 -- ---- a line made dead
 
@@ -209,9 +208,9 @@ kill_none key (l ∷ ls) h =
       kill_none key ls (or_false_right (same l.key key) (is_in key (keys_of ls)) h),
     )
 
-kill_up : (l : Line) (ls : List Line) (f : Found) → kill_found (l ∷ ls) (up f) ≡ l ∷ kill_found ls f
-kill_up l ls Nothing = refl
-kill_up l ls (At i) = refl
+kill_up : (l : Line) (ls : List Line) (f : Option ℕ) → kill_found (l ∷ ls) (up f) ≡ l ∷ kill_found ls f
+kill_up l ls None = refl
+kill_up l ls (Some i) = refl
 
 -- where no two lines bear one key, killing the first that bears it is killing each that does
 pub kill_found_lem : (key : List ℕ) (ls : List Line) → NoRepeat (keys_of ls) → kill_found ls (line_with key ls) ≡ map (kill key) ls

@@ -1,6 +1,7 @@
 -- Of the clerk's book: taken messages name no key twice, the live lines are those that nothing named since they were made, and
 -- the figures are those that the live lines mean.
 -- Assumes nothing.
+use Rattle.std.specs.Prelude.{None}
 use Prim.Native.Nat.{ℕ, suc}
 use mathlib.Core.Path.{◌≡◌, refl, sym, ap, subst, ◌∙◌}
 use mathlib.Core.Logic.{◌↔◌, ⊎_elim}
@@ -19,7 +20,6 @@ use Rattle.message.specs.Reader.{read_of}
 use Rattle.records.specs.declared.Record.{Record}
 use Rattle.lines.specs.declared.Line.{Line}
 use Rattle.rows.specs.declared.Listing.{Listing}
-use Rattle.rows.specs.declared.Reported.TheVariants.{NotSet}
 use Rattle.keys.specs.Keys.{old_key}
 use Rattle.clerk.specs.Messages.{names_in, makes_in, key_in}
 use Rattle.figures.specs.declared.Figures.{Figures}
@@ -286,6 +286,6 @@ clerk_figures_one ed es l f a = ap (shown_of (row_of ed es l)) (figures_one (fig
 
 -- in an edition whose messages do not report, no row that he shows has a reported volume, and none agrees
 pub never_reported : (ed : Edition) (es : List Taken) (l : Listing) → reports ed ≡ false
-    → ((shown_by ed es l).reported ≡ NotSet) × ((shown_by ed es l).agrees ≡ false)
+    → ((shown_by ed es l).reported ≡ None) × ((shown_by ed es l).agrees ≡ false)
 unfolding shown_by row_of summary_of reported_of shown_of
 never_reported ed es l none = (rw none, rw none)

@@ -11,7 +11,7 @@ use lib.ListN.{length}
 use Rattle.texts.specs.Text.{text}
 use Rattle.answers.specs.Cases.{Case, given}
 use Rattle.answers.proofs.Cases.{NoneApplies, none_applies}
-use Rattle.message.specs.declared.Reading.{Reading}
+use Rattle.message.specs.Reader.{Reading}
 use Rattle.rows.specs.declared.Listing.{Listing}
 use Rattle.phases.specs.Phases.{due}
 use Rattle.keys.specs.Keys.{kind_in, old_key}

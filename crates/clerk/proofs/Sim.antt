@@ -1,5 +1,6 @@
 -- The book after any used messages, on any sheet without a symbol twice, is the one that the clerk works out.
 -- Assumes nothing.
+use Rattle.std.specs.Prelude.{None, Option, Some, ℕ}
 use Prim.Native.Nat.{ℕ, suc, ◌+◌}
 use mathlib.Core.Path.{◌≡◌, refl, sym, ap, ap₂, subst, ◌∙◌}
 use mathlib.Core.Bool.{Bool, true, false, cond, not, ◌&&◌, ◌||◌, true≢false}
@@ -14,8 +15,6 @@ use Rattle.octets.proofs.Trips.{same_is}
 use Rattle.editions.specs.declared.Edition.{Edition}
 use Rattle.editions.specs.Editions.{reports}
 use Rattle.records.specs.declared.Record.{Record}
-use Rattle.cells.specs.declared.Found.{Found}
-use Rattle.cells.specs.declared.Found.TheVariants.{Nothing, At}
 use Rattle.lines.specs.declared.Line.{Line}
 use Rattle.rows.specs.declared.Row.{Row}
 use Rattle.cells.specs.Search.{first}
@@ -282,9 +281,9 @@ unfolding row_of
 sheet_is ed es [] = refl
 sheet_is ed es (l ∷ sheet) = ap {B = List Listing} (λ x. l ∷ x) (sheet_is ed es sheet)
 
-row_up : (change : Row → Row) (w : Row) (ws : List Row) (f : Found) → change_found change (w ∷ ws) (up f) ≡ w ∷ change_found change ws f
-row_up change w ws Nothing = refl
-row_up change w ws (At i) = refl
+row_up : (change : Row → Row) (w : Row) (ws : List Row) (f : Option ℕ) → change_found change (w ∷ ws) (up f) ≡ w ∷ change_found change ws f
+row_up change w ws None = refl
+row_up change w ws (Some i) = refl
 
 -- one row changed, that of the message's symbol: g and h are what the clerk works out for the rows before and after
 module _ (r : Record) (change : Row → Row) (g h : Listing → Row)

@@ -1,6 +1,7 @@
 -- A call, as its contract tells it, is a step on lists: what `book_of` reads after it is what the step makes of what it read before.
 -- A sound book stays sound.
 -- Assumes nothing.
+use Rattle.std.specs.Prelude.{None, Option, Some, ℕ}
 use Prim.Native.Nat.{ℕ, ◌+◌, ◌^◌, ◌≤◌, ◌<◌, min}
 use mathlib.Core.Path.{◌≡◌, refl, ap, sym, ◌∙◌}
 use mathlib.Core.List.{List, [], ◌∷◌, ◌++◌}
@@ -19,8 +20,6 @@ use Rattle.editions.specs.declared.Edition.{Edition}
 use Rattle.editions.specs.Editions.{reports}
 use Rattle.records.specs.declared.Record.{Record}
 use Rattle.message.proofs.Fitting.{read_fits}
-use Rattle.cells.specs.declared.Found.{Found}
-use Rattle.cells.specs.declared.Found.TheVariants.{Nothing, At}
 use Rattle.cells.proofs.Slabs.{found_below}
 use Rattle.kinds.proofs.Laws.{event_makes, sets_event, summary_sets}
 use Rattle.lines.specs.declared.Line.{Line}
@@ -55,9 +54,9 @@ use Rattle.clerk.proofs.Passing.{Passed, passed, listable}
 
 -- ---- what a search found
 
-there : (f : Found) → is_found f ≡ true → (i : ℕ) × (f ≡ At i)
-there Nothing e = absurd (true≢false (sym e))
-there (At i) e = (i, refl)
+there : (f : Option ℕ) → is_found f ≡ true → (i : ℕ) × (f ≡ Some i)
+there None e = absurd (true≢false (sym e))
+there (Some i) e = (i, refl)
 
 -- ---- a taken message: the counters
 
@@ -125,7 +124,7 @@ module _ (m : List ℕ) (used n : ℕ) (r : Record) (fits : RecordFits r) (small
       let e = used_lines_length m used in
       rw (add-one used) (lines_put m used (made_line n r) (made_fits r fits n small) (omega arith))
 
-  module _ (i : ℕ) (found : line_with (old_key r) old ≡ At i) where
+  module _ (i : ℕ) (found : line_with (old_key r) old ≡ Some i) where
     below : i < min used (line_limit (length m))
     below = omega (arith, found_below (bears (old_key r)) old i found, used_lines_length m used)
 
@@ -151,7 +150,7 @@ module _ (m : List ℕ) (used n : ℕ) (r : Record) (fits : RecordFits r) (small
   unfolding lines_by lines_for
   lines_taken room borne = go (names_in r) refl (makes_in r) refl
     where
-      named : is_found (line_with (old_key r) old) ≡ true → (i : ℕ) × (line_with (old_key r) old ≡ At i)
+      named : is_found (line_with (old_key r) old) ≡ true → (i : ℕ) × (line_with (old_key r) old ≡ Some i)
       named h = there (line_with (old_key r) old) h
 
       go : (o : Bool) → names_in r ≡ o → (t : Bool) → makes_in r ≡ t
@@ -168,7 +167,7 @@ module _ (ed : Edition) (m : List ℕ) (used : ℕ) (r : Record) (fits : RecordF
   abbrev olds : List Row
   olds = used_rows m used
 
-  module _ (i : ℕ) (found : listing_of r.symbol (sheet_in olds) ≡ At i) where
+  module _ (i : ℕ) (found : listing_of r.symbol (sheet_in olds) ≡ Some i) where
     below_row : i < min used (row_limit (length m))
     below_row =
         let n : length (sheet_in olds) ≡ length olds = length-map olds (λ (x : Row). x.listing) in
@@ -193,7 +192,7 @@ module _ (ed : Edition) (m : List ℕ) (used : ℕ) (r : Record) (fits : RecordF
   unfolding rows_by reported_by rows_for
   rows_taken h = by (reports ed) refl
     where
-      found : is_listed r.symbol (sheet_in olds) ≡ true → (i : ℕ) × (listing_of r.symbol (sheet_in olds) ≡ At i)
+      found : is_listed r.symbol (sheet_in olds) ≡ true → (i : ℕ) × (listing_of r.symbol (sheet_in olds) ≡ Some i)
       found e = there (listing_of r.symbol (sheet_in olds)) e
 
       go : reports ed ≡ true → (j : Bool) → summary_in r ≡ j → (t : Bool) → sets_in r ≡ t

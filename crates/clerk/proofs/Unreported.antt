@@ -1,5 +1,6 @@
 -- What a row shows as reported, in a book whose edition does not report: no message changes it, whatever state it finds.
 -- Assumes nothing.
+use Rattle.std.specs.Prelude.{Option, ℕ}
 use Prim.Native.Nat.{ℕ}
 use mathlib.Core.Path.{◌≡◌, refl, ap, sym, ◌∙◌}
 use mathlib.Core.Bool.{Bool, true, false, true≢false}
@@ -8,7 +9,6 @@ use borrow.Author.Tests.{eqb-true, eqb-false}
 use lib.Dec.{eqb}
 use Rattle.answers.specs.Cases.{given, in_book}
 use Rattle.editions.specs.Editions.{reports}
-use Rattle.rows.specs.declared.Reported.{Reported}
 use Rattle.show.specs.declared.RowShown.{RowShown}
 use Rattle.book.specs.State.{State, Arrival, edition_of, sheet_of, sound_in}
 use Rattle.book.specs.Calls.{delivered, row_table, row_answer, shown}
@@ -39,7 +39,7 @@ module _ (s : State) (a : Arrival) (none : reports (edition_of s) ≡ false) whe
   unfolding shown
   reported_stays symbol = go (eqb (row_answer s symbol) 0) refl
     where
-      told : RowShown → Reported
+      told : RowShown → Option ℕ
       told w = w.reported
 
       go : (b : Bool) → eqb (row_answer s symbol) 0 ≡ b → (shown after symbol).row.reported ≡ (shown s symbol).row.reported

@@ -1,5 +1,6 @@
 -- What a row's reading tells, of a book that is the clerk's: what he shows of a listed symbol, and 7 of any other.
 -- Assumes nothing.
+use Rattle.std.specs.Prelude.{None, Option, Some, ℕ}
 use Prim.Native.Nat.{ℕ}
 use mathlib.Core.Path.{◌≡◌, refl, sym, ap, subst, ◌∙◌}
 use mathlib.Core.Logic.{⊎_elim}
@@ -9,11 +10,8 @@ use mathlib.Core.List.{List, [], ◌∷◌, map, Memᴰ}
 use native.Mathlib.Omega.{arith}
 use lib.ListN.{get_or}
 use Rattle.octets.specs.Run.{same}
-use Rattle.answers.specs.Answers.{number_of, answer_of}
+use Rattle.answers.specs.Answers.{Answer, number_of, answer_of}
 use Rattle.answers.specs.Cases.{says, done, given, in_book}
-use Rattle.answers.specs.declared.Answer.{Answer}
-use Rattle.cells.specs.declared.Found.{Found}
-use Rattle.cells.specs.declared.Found.TheVariants.{Nothing, At}
 use Rattle.editions.specs.declared.Edition.{Edition}
 use Rattle.lines.specs.declared.Line.{Line}
 use Rattle.rows.specs.declared.Listing.{Listing}
@@ -35,13 +33,13 @@ use Rattle.clerk.proofs.Sim.{sheet_is}
 use Rattle.clerk.proofs.Once.{clerk_figures_one}
 
 -- the row that was found
-abbrev found_row : List Row → Found → Row
-found_row ws Nothing = no_row
-found_row ws (At i) = get_or ws i no_row
+abbrev found_row : List Row → Option ℕ → Row
+found_row ws None = no_row
+found_row ws (Some i) = get_or ws i no_row
 
-found_up : (w : Row) (ws : List Row) (f : Found) → found_row (w ∷ ws) (up f) ≡ found_row ws f
-found_up w ws Nothing = refl
-found_up w ws (At i) = refl
+found_up : (w : Row) (ws : List Row) (f : Option ℕ) → found_row (w ∷ ws) (up f) ≡ found_row ws f
+found_up w ws None = refl
+found_up w ws (Some i) = refl
 
 -- ---- a listed symbol
 

@@ -2,8 +2,7 @@
 -- and which messages were used.
 -- Assumes nothing.
 use Rattle.std.specs.Prelude.{ℕ, zero, suc, ◌≡◌, List, [], ◌∷◌, ◌++◌, map, true, false, cond, eqb}
-use Rattle.answers.specs.Answers.{answer_of}
-use Rattle.answers.specs.declared.Answer.{Answer}
+use Rattle.answers.specs.Answers.{Answer, answer_of}
 use Rattle.editions.specs.declared.Edition.{Edition}
 use Rattle.message.specs.Reader.{read_of}
 use Rattle.lines.specs.declared.Line.{Line}

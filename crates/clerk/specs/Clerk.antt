@@ -1,20 +1,16 @@
 -- The clerk. He works from the edition, the sheet, the room and the used messages alone, and reads no stored figure and no lent byte. A
 -- list of used messages, and a list of taken ones, has the newest first.
 -- Assumes nothing.
-use Rattle.std.specs.Prelude.{ℕ, suc, List, [], ◌∷◌, ◌++◌, map, Bool, false, cond, not, ◌&&◌, ◌||◌, eqb, length}
+use Rattle.std.specs.Prelude.{ℕ, suc, List, [], ◌∷◌, ◌++◌, map, Bool, false, cond, not, ◌&&◌, ◌||◌, eqb, length, None, Option, Some}
 use Rattle.octets.specs.Run.{same}
 use Rattle.editions.specs.declared.Edition.{Edition}
 use Rattle.editions.specs.Editions.{reports}
-use Rattle.message.specs.declared.Reading.{Reading}
-use Rattle.message.specs.Reader.{read_of}
+use Rattle.message.specs.Reader.{Reading, read_of}
 use Rattle.records.specs.declared.Record.{Record}
 use Rattle.lines.specs.declared.Line.{Line}
 use Rattle.rows.specs.declared.Listing.{Listing}
 use Rattle.rows.specs.declared.Row.{Row}
-use Rattle.rows.specs.declared.Summary.{Summary}
-use Rattle.rows.specs.declared.Summary.TheVariants.{NoSummary, HighLow}
-use Rattle.rows.specs.declared.Reported.{Reported}
-use Rattle.rows.specs.declared.Reported.TheVariants.{NotSet, Volume}
+use Rattle.rows.specs.Rows.{high_low}
 use Rattle.walk.specs.Walking.{figures_of}
 use Rattle.phases.specs.Phases.{phase_of}
 use Rattle.keys.specs.Keys.{old_key}
@@ -25,6 +21,7 @@ use Rattle.show.specs.Showing.{shown_of}
 use Rattle.answers.specs.Cases.{given}
 use Rattle.clerk.specs.Messages.{event_in, correction_in, summary_in, sets_in, names_in, makes_in, sale_in, key_in}
 use Rattle.clerk.specs.Steps.{Book}
+use Rattle.rows.specs.declared.HighLow.{HighLow}
 
 -- ---- the sheet
 
@@ -126,16 +123,16 @@ taken_of ed sheet limit (m ∷ ms) =
 -- ---- rows
 
 -- the latest J of a symbol
-unfoldable pub summary_of : List Taken → List ℕ → Summary
-summary_of [] symbol = NoSummary
+unfoldable pub summary_of : List Taken → List ℕ → Option HighLow
+summary_of [] symbol = None
 summary_of (e ∷ es) symbol =
-    cond (summary_in e.message && same symbol e.message.symbol) (HighLow e.message.high e.message.low) (summary_of es symbol)
+    cond (summary_in e.message && same symbol e.message.symbol) (Some (high_low e.message.high e.message.low)) (summary_of es symbol)
 
 -- the latest consolidated volume of a symbol
-unfoldable pub reported_of : List Taken → List ℕ → Reported
-reported_of [] symbol = NotSet
+unfoldable pub reported_of : List Taken → List ℕ → Option ℕ
+reported_of [] symbol = None
 reported_of (e ∷ es) symbol =
-    cond (sets_in e.message && same symbol e.message.symbol) (Volume e.message.consolidated) (reported_of es symbol)
+    cond (sets_in e.message && same symbol e.message.symbol) (Some e.message.consolidated) (reported_of es symbol)
 
 -- the taken messages that a row's report and summary come from: all of them where the edition's messages report a volume, else none: an
 -- edition that reports no volume has no summary either, so nothing of these messages reaches a row

@@ -1,13 +1,11 @@
 -- The book as lists, and what one call does to it. `book_of` is what a state comes to.
 -- Assumes nothing.
-use Rattle.std.specs.Prelude.{ℕ, ◌+◌, List, [], ◌∷◌, ◌++◌, cond, eqb, get_or, set}
+use Rattle.std.specs.Prelude.{ℕ, ◌+◌, List, [], ◌∷◌, ◌++◌, cond, eqb, get_or, set, None, Option, Some}
 use Rattle.answers.specs.Cases.{given}
 use Rattle.editions.specs.declared.Edition.{Edition}
 use Rattle.editions.specs.Editions.{reports}
 use Rattle.message.specs.Reader.{read_of}
 use Rattle.records.specs.declared.Record.{Record}
-use Rattle.cells.specs.declared.Found.{Found}
-use Rattle.cells.specs.declared.Found.TheVariants.{Nothing, At}
 use Rattle.kinds.specs.declared.Kind.{Kind}
 use Rattle.kinds.specs.Kinds.{is_correction, is_summary, names_old, makes_new, sets_volume}
 use Rattle.lines.specs.declared.Line.{Line}
@@ -52,13 +50,13 @@ book_of s =
 -- ---- what a taken message does
 
 -- the line that was found
-abbrev pub line_found : List Line → Found → Line
-line_found ls Nothing = no_line
-line_found ls (At i) = get_or ls i no_line
+abbrev pub line_found : List Line → Option ℕ → Line
+line_found ls None = no_line
+line_found ls (Some i) = get_or ls i no_line
 
-abbrev pub kill_found : List Line → Found → List Line
-kill_found ls Nothing = ls
-kill_found ls (At i) = set ls i (dead (get_or ls i no_line))
+abbrev pub kill_found : List Line → Option ℕ → List Line
+kill_found ls None = ls
+kill_found ls (Some i) = set ls i (dead (get_or ls i no_line))
 
 -- the lines after message n of a type
 unfoldable pub lines_for : Kind → ℕ → Record → List Line → List Line
@@ -80,9 +78,9 @@ abbrev pub summing : Record → Row → Row
 summing r w = keeping r (summarised r.high r.low w)
 
 -- the row that was found changed
-abbrev pub change_found : (Row → Row) → List Row → Found → List Row
-change_found change rs Nothing = rs
-change_found change rs (At i) = set rs i (change (get_or rs i no_row))
+abbrev pub change_found : (Row → Row) → List Row → Option ℕ → List Row
+change_found change rs None = rs
+change_found change rs (Some i) = set rs i (change (get_or rs i no_row))
 
 -- the first row of the message's symbol changed
 abbrev pub in_its_row : (Row → Row) → Record → List Row → List Row

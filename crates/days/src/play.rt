@@ -5,11 +5,10 @@ use crate::rooms;
 use book::Said;
 use counters::Counters;
 use editions::Edition;
-use figures::Price;
 use numbers::{number4, number8};
 use octets::run;
-use rows::{Listing, Reported};
-use show::{Net, RowShown};
+use rows::Listing;
+use show::RowShown;
 use std::io::{Result, Write};
 
 // A listing: the symbol and the close that the code has, handed to the book.
@@ -124,19 +123,19 @@ fn shown<W: Write>(out: &mut W, r: RowShown) -> Result<()> {
     reported(out, r.agrees, r.reported)
 }
 
-fn price<W: Write>(out: &mut W, name: &[u8], p: Price) -> Result<()> {
+fn price<W: Write>(out: &mut W, name: &[u8], p: Option<u32>) -> Result<()> {
     telling::words(out, name)?;
     match p {
-        Price::Absent => telling::words(out, b"-"),
-        Price::Of(x) => telling::number(out, x as u64),
+        None => telling::words(out, b"-"),
+        Some(x) => telling::number(out, x as u64),
     }
 }
 
 // Last less close, with its sign.
-fn net<W: Write>(out: &mut W, n: Net) -> Result<()> {
+fn net<W: Write>(out: &mut W, n: Option<i64>) -> Result<()> {
     match n {
-        Net::NoNet => telling::words(out, b" net -"),
-        Net::Amount(x) => {
+        None => telling::words(out, b" net -"),
+        Some(x) => {
             if x < 0 {
                 return telling::field(out, b" net -", ((-1 - x) as u64) + 1);
             }
@@ -148,15 +147,15 @@ fn net<W: Write>(out: &mut W, n: Net) -> Result<()> {
     }
 }
 
-fn reported<W: Write>(out: &mut W, agrees: bool, r: Reported) -> Result<()> {
+fn reported<W: Write>(out: &mut W, agrees: bool, r: Option<u64>) -> Result<()> {
     if agrees {
         telling::words(out, b" agrees yes reported ")?;
     } else {
         telling::words(out, b" agrees no reported ")?;
     }
     match r {
-        Reported::NotSet => telling::words(out, b"-\n"),
-        Reported::Volume(x) => {
+        None => telling::words(out, b"-\n"),
+        Some(x) => {
             telling::number(out, x)?;
             telling::words(out, b"\n")
         }

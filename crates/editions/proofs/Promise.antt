@@ -1,5 +1,6 @@
 -- Each contract leaves one possible answer; and an edition is found again by its number.
 -- Assumes nothing.
+use Rattle.std.specs.Prelude.{None, Option, Some}
 use Prim.Native.Nat.{ℕ}
 use mathlib.Core.Bool.{Bool, true, false}
 use mathlib.Core.List.{List, [], ◌∷◌}
@@ -8,8 +9,6 @@ use borrow.Author.Tests.{eqb-true}
 use lib.Dec.{eqb}
 use Rattle.editions.specs.declared.Edition.{Edition}
 use Rattle.editions.specs.declared.Edition.TheVariants.{NlsPlus, Pls}
-use Rattle.editions.specs.declared.Named.{Named}
-use Rattle.editions.specs.declared.Named.TheVariants.{Known, Unknown}
 use Rattle.editions.specs.Editions.{edition_number, all_editions, edition_among, edition_named}
 use Rattle.editions.proofs.number.Reads as number-reads
 use Rattle.editions.proofs.edition_of.Reads as edition-of-reads
@@ -19,7 +18,7 @@ pub number_one : (e e₁ e₂ : Edition) (n n' : ℕ)
     → number-reads.Learnt tt (e, tt) n (e₁, tt) → number-reads.Learnt tt (e, tt) n' (e₂, tt) → n ≡ n'
 number_one e e₁ e₂ n n' h h' = h ∙ sym h'
 
-pub edition_of_one : (n n₁ n₂ : ℕ) (e e' : Named)
+pub edition_of_one : (n n₁ n₂ : ℕ) (e e' : Option Edition)
     → edition-of-reads.Learnt tt (n, tt) e (n₁, tt) → edition-of-reads.Learnt tt (n, tt) e' (n₂, tt) → e ≡ e'
 edition_of_one n n₁ n₂ e e' h h' = h ∙ sym h'
 
@@ -28,15 +27,15 @@ pub does_report_one : (e e₁ e₂ : Edition) (b b' : Bool)
 does_report_one e e₁ e₂ b b' h h' = h ∙ sym h'
 
 -- no two editions share a number
-pub edition_again : (e : Edition) → edition_named (edition_number e) ≡ Known e
+pub edition_again : (e : Edition) → edition_named (edition_number e) ≡ Some e
 unfolding edition_named
 edition_again NlsPlus = refl
 edition_again Pls = refl
 
 -- an edition that a number names has that number
-abbrev number_or : Named → ℕ → ℕ
-number_or (Known e) n = edition_number e
-number_or Unknown n = n
+abbrev number_or : Option Edition → ℕ → ℕ
+number_or (Some e) n = edition_number e
+number_or None n = n
 
 among : (es : List Edition) (n : ℕ) → number_or (edition_among es n) n ≡ n
 among [] n = refl
@@ -46,6 +45,6 @@ among (e ∷ es) n = go (eqb n (edition_number e)) refl (among es n)
     go true q r = rw q (sym (eqb-true n (edition_number e) q))
     go false q r = rw q r
 
-pub number_again : (n : ℕ) (e : Edition) → edition_named n ≡ Known e → edition_number e ≡ n
+pub number_again : (n : ℕ) (e : Edition) → edition_named n ≡ Some e → edition_number e ≡ n
 unfolding edition_named
-number_again n e h = ap (λ (x : Named). number_or x n) (sym h) ∙ among all_editions n
+number_again n e h = ap (λ (x : Option Edition). number_or x n) (sym h) ∙ among all_editions n

@@ -12,13 +12,6 @@ pub enum Edition {
     Pls,
 }
 
-// What a number names: an edition, or nothing.
-#[derive(Clone, Copy)]
-pub enum Named {
-    Known(Edition),
-    Unknown,
-}
-
 // The number of an edition, as a program of another language passes it.
 pub fn number(edition: Edition) -> u64
     ensures { result ≡ edition_number edition }
@@ -30,13 +23,13 @@ pub fn number(edition: Edition) -> u64
 }
 
 // The edition that a number names.
-pub fn edition_of(n: u64) -> Named
+pub fn edition_of(n: u64) -> Option<Edition>
     ensures { result ≡ edition_named n }
 {
     match n {
-        0 => Named::Known(Edition::NlsPlus),
-        1 => Named::Known(Edition::Pls),
-        _ => Named::Unknown,
+        0 => Some(Edition::NlsPlus),
+        1 => Some(Edition::Pls),
+        _ => None,
     }
 }
 

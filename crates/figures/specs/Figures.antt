@@ -1,31 +1,32 @@
 -- A row's figures, and what one more trade makes of them.
 -- Assumes nothing.
-use Rattle.std.specs.Prelude.{ℕ, ◌+◌, cond, ltb}
+use Rattle.std.specs.Prelude.{ℕ, ◌+◌, cond, ltb, None, Option, Some}
 use Rattle.conditions.specs.declared.Marks.{Marks}
-use Rattle.figures.specs.declared.Price.{Price}
-use Rattle.figures.specs.declared.Price.TheVariants.{Absent, Of}
-use Rattle.figures.specs.declared.Last.{Last}
-use Rattle.figures.specs.declared.Last.TheVariants.{NoLast, Trade}
 use Rattle.figures.specs.declared.Figures.{Figures}
+use Rattle.figures.specs.declared.LastTrade.{LastTrade}
 
 -- the higher of what was seen and a price
-abbrev pub raise : Price → ℕ → Price
-raise Absent p = Of p
-raise (Of q) p = cond (ltb q p) (Of p) (Of q)
+abbrev pub raise : Option ℕ → ℕ → Option ℕ
+raise None p = Some p
+raise (Some q) p = cond (ltb q p) (Some p) (Some q)
 
 -- the lower of what was seen and a price
-abbrev pub lower : Price → ℕ → Price
-lower Absent p = Of p
-lower (Of q) p = cond (ltb p q) (Of p) (Of q)
+abbrev pub lower : Option ℕ → ℕ → Option ℕ
+lower None p = Some p
+lower (Some q) p = cond (ltb p q) (Some p) (Some q)
+
+-- a trade that may be the last
+abbrev pub last_trade : ℕ → ℕ → LastTrade
+last_trade place price = record { place = place; price = price }
 
 -- the sale with the greater place, of equal places the first
-abbrev pub later : Last → ℕ → ℕ → Last
-later NoLast place price = Trade place price
-later (Trade v q) place price = cond (ltb v place) (Trade place price) (Trade v q)
+abbrev pub later : Option LastTrade → ℕ → ℕ → Option LastTrade
+later None place price = Some (last_trade place price)
+later (Some last) place price = cond (ltb last.place place) (Some (last_trade place price)) (Some last)
 
 -- the figures of no trade at all
 abbrev pub no_figures : Figures
-no_figures = record { volume = 0; count = 0; high = Absent; low = Absent; last = NoLast }
+no_figures = record { volume = 0; count = 0; high = None; low = None; last = None }
 
 -- one more trade: every trade counts for volume, the first mark may set high and low, the second may be the last
 unfoldable pub sold : Figures → ℕ → ℕ → ℕ → Marks → Figures

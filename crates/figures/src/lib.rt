@@ -4,53 +4,40 @@
 ghost use Rattle.std.specs.Prelude.{◌≡◌, cond};
 ghost use Rattle.figures.specs.Figures.{raise, lower, later};
 
-// A price, or none if no trade has set it.
+// The newest trade that may be the last.
 #[derive(Clone, Copy)]
-pub enum Price {
-    Absent,
-    Of(u32),
+pub struct LastTrade {
+    pub place: u32,
+    pub price: u32,
 }
 
-// The newest trade that may be the last: its place and its price.
-#[derive(Clone, Copy)]
-pub enum Last {
-    NoLast,
-    Trade(u32, u32),
-}
-
-// What a row reads from the live lines of its symbol.
+// What a row reads from the live lines of its symbol. A high, a low or a last is absent if no trade has set it.
 #[derive(Clone, Copy)]
 pub struct Figures {
     pub volume: u64,
     pub count: u64,
-    pub high: Price,
-    pub low: Price,
-    pub last: Last,
+    pub high: Option<u32>,
+    pub low: Option<u32>,
+    pub last: Option<LastTrade>,
 }
 
 // The high after a trade at a price, which may raise it only if the trade is marked.
-pub fn higher(h: Price, marked: bool, p: u32) -> Price
+pub fn higher(h: Option<u32>, marked: bool, p: u32) -> Option<u32>
     ensures { result ≡ cond marked (raise h p) h }
 {
     if marked {
-        match h {
-            Price::Absent => Price::Of(p),
-            Price::Of(q) => { if q < p { Price::Of(p) } else { Price::Of(q) } }
-        }
+        Some(h.map_or(p, |q| q.max(p)))
     } else {
         h
     }
 }
 
 // The low after a trade at a price, which may lower it only if the trade is marked.
-pub fn lowered(h: Price, marked: bool, p: u32) -> Price
+pub fn lowered(h: Option<u32>, marked: bool, p: u32) -> Option<u32>
     ensures { result ≡ cond marked (lower h p) h }
 {
     if marked {
-        match h {
-            Price::Absent => Price::Of(p),
-            Price::Of(q) => { if p < q { Price::Of(p) } else { Price::Of(q) } }
-        }
+        Some(h.map_or(p, |q| q.min(p)))
     } else {
         h
     }
@@ -58,21 +45,11 @@ pub fn lowered(h: Price, marked: bool, p: u32) -> Price
 
 // The last after a trade of a place and a price. A marked trade becomes the last if its place is greater than that of
 // the last so far.
-pub fn latest(l: Last, marked: bool, place: u32, price: u32) -> Last
+pub fn latest(l: Option<LastTrade>, marked: bool, place: u32, price: u32) -> Option<LastTrade>
     ensures { result ≡ cond marked (later l place price) l }
 {
-    if marked {
-        match l {
-            Last::NoLast => Last::Trade(place, price),
-            Last::Trade(v, q) => {
-                if v < place {
-                    Last::Trade(place, price)
-                } else {
-                    Last::Trade(v, q)
-                }
-            }
-        }
-    } else {
-        l
+    if marked && l.is_none_or(|last| last.place < place) {
+        return Some(LastTrade { place, price });
     }
+    l
 }

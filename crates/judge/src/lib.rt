@@ -15,10 +15,7 @@ ghost use Rattle.judge.specs.Judged.{kept_in, lawful_in, trade_rules, sale_rules
 use editions::{Edition, does_report};
 use kinds::{C_LETTER, J_LETTER, Kind, S_LETTER, T_LETTER, X_LETTER};
 use numbers::number4;
-use records::{
-    CENTRE, CLASS, CLOSE, CONDITION, CONSOLIDATED, CONTROL_WIDTH, EVENT, HIGH, LETTER, LOW,
-    NEW_SALE, OLD_SALE, PRICE, RECORD, SIZE, SYMBOL, SYMBOL_WIDTH, TIME,
-};
+use records::{CENTRE, CLASS, CLOSE, CONDITION, CONSOLIDATED, CONTROL_WIDTH, EVENT, HIGH, LETTER, LOW, NEW_SALE, OLD_SALE, PRICE, RECORD, SIZE, SYMBOL, SYMBOL_WIDTH, TIME};
 use rules::{centre_ok, class_ok, event_ok, price_ok, size_ok, summary_price_ok, time_ok};
 
 // The bytes of a consolidated volume.

@@ -14,9 +14,9 @@ use lib.Dec.{leb}
 use lib.ListN.{length, take, drop, get_or}
 use lib.Seq.{take_at, drop_at}
 use Rattle.editions.specs.declared.Edition.{Edition}
-use Rattle.answers.specs.declared.Answer.{Answer}
-use Rattle.answers.specs.declared.Answer.TheVariants.{Done, FieldBroken, NoSpace}
-use Rattle.answers.specs.Answers.{number_of}
+use Rattle.std.specs.Prelude.{Ok, Err}
+use Rattle.answers.specs.declared.Refusal.TheVariants.{FieldBroken, NoSpace}
+use Rattle.answers.specs.Answers.{Answer, number_of}
 use Rattle.layout.specs.Values.{is_zero, all_fields, room_of}
 use Rattle.layout.specs.Tables.{Layout, field_of, stands, Each, lacked}
 use Rattle.layout.proofs.Tables as Laws
@@ -27,11 +27,10 @@ use Rattle.records.specs.Fits.{RecordFits}
 use Rattle.records.specs.Zeros.{no_record}
 use Rattle.records.specs.Held.{holds, read_by, write_by, lawful}
 use Rattle.records.proofs.Held.{fits_typed, read_letter, written_read, written_obeys}
-use Rattle.message.specs.declared.Reading.{Reading}
 use Rattle.formats.specs.Formats.{letter_place, layout_by, layout_for, length_by, fields_of, bytes_of}
 use Rattle.formats.proofs.Good.{named}
 use Rattle.judge.specs.Judged.{lawful_of}
-use Rattle.message.specs.Reader.{refused_of, accepted_of, shaped_in, obeys_in, read_in, read_of}
+use Rattle.message.specs.Reader.{Reading, refused_of, accepted_of, shaped_in, obeys_in, read_in, read_of}
 use Rattle.message.specs.Writer.{write_answer, write_out}
 use Rattle.message.specs.Obeying.{Shaped, Obeys, Lawful}
 use Rattle.message.proofs.Said.{Said, unshaped, unkept, obeyed, said}
@@ -139,7 +138,7 @@ module _ (e : Edition) where
       go (obeyed i l q) = (l, ap (λ (a : Reading). a.found) q)
 
   pub write_done : (r : Record) (out : List ℕ) → lawful_of e r ≡ true → length_by e r.letter ≤ length out
-      → (write_answer e r out ≡ Done) × (write_out e r out ≡ bytes_of e r ++ drop (length (bytes_of e r)) out)
+      → (write_answer e r out ≡ (Ok tt)) × (write_out e r out ≡ bytes_of e r ++ drop (length (bytes_of e r)) out)
   unfolding write_answer write_out
   write_done r out l k = (simp (l, le-leb _ _ k), simp (l, le-leb _ _ k))
 
@@ -176,7 +175,7 @@ module _ (e : Edition) where
       is : Answer → List ℕ → Type 0
       is a left = WritesExactly r out a left
 
-      unlawful : lawful_of e r ≡ false → is FieldBroken out
+      unlawful : lawful_of e r ≡ false → is (Err FieldBroken) out
       unlawful f =
           let never : Lawful e r → ⊥ = λ w. clash (lawful_of e r) (is_lawful e r w) f in
           record {
@@ -188,7 +187,7 @@ module _ (e : Edition) where
             past = λ g v. refl;
           }
 
-      tight : lawful_of e r ≡ true → length out < length_by e r.letter → is NoSpace out
+      tight : lawful_of e r ≡ true → length out < length_by e r.letter → is (Err NoSpace) out
       tight l k =
           let w = lawful_is e r l in
           record {
@@ -200,7 +199,7 @@ module _ (e : Edition) where
             past = λ g v. refl;
           }
 
-      roomy : lawful_of e r ≡ true → length_by e r.letter ≤ length out → is Done (bytes_of e r ++ drop (length (bytes_of e r)) out)
+      roomy : lawful_of e r ≡ true → length_by e r.letter ≤ length out → is (Ok tt) (bytes_of e r ++ drop (length (bytes_of e r)) out)
       roomy l k =
           let w = lawful_is e r l in
           record {

@@ -13,12 +13,10 @@ use Rattle.octets.specs.Run.{Bytes}
 use Rattle.editions.specs.declared.Edition.{Edition}
 use Rattle.editions.specs.declared.Edition.TheVariants.{NlsPlus}
 use Rattle.records.specs.declared.Record.{Record}
-use Rattle.message.specs.declared.Reading.{Reading}
-use Rattle.answers.specs.declared.Answer.{Answer}
-use Rattle.answers.specs.Answers.{number_of}
+use Rattle.answers.specs.Answers.{Answer, number_of}
 use Rattle.records.specs.Fits.{RecordFits}
 use Rattle.message.specs.Obeying.{Lawful}
-use Rattle.message.specs.Reader.{accepted_of, read_of}
+use Rattle.message.specs.Reader.{Reading, accepted_of, read_of}
 use Rattle.message.specs.Writer.{write_answer, write_out}
 use Rattle.message.specs.contracts.read as read
 use Rattle.message.proofs.read.Reads as read-reads

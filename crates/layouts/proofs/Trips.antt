@@ -14,8 +14,7 @@ use lib.Seq.{take_at, drop_at}
 use Rattle.octets.specs.Run.{Bytes}
 use Rattle.editions.specs.declared.Edition.{Edition}
 use Rattle.editions.specs.declared.Edition.TheVariants.{NlsPlus}
-use Rattle.answers.specs.declared.Answer.{Answer}
-use Rattle.answers.specs.Answers.{number_of}
+use Rattle.answers.specs.Answers.{Answer, number_of}
 use Rattle.layout.specs.Forms.{plain, is_numeral}
 use Rattle.layout.specs.Tables.{Layout, form_of, bytes_at, Each, spelt_by, plain_by, obeys_by}
 use Rattle.layout.proofs.Forms.{both}
@@ -29,8 +28,7 @@ use Rattle.records.proofs.Held.{fits_typed, read_written, read_plain, read_outsi
 use Rattle.formats.specs.Formats.{letter_place, layout_by, letter_in, layout_for, length_by, fields_of, bytes_of}
 use Rattle.formats.proofs.Good.{named, sure}
 use Rattle.judge.specs.Judged.{lawful_of}
-use Rattle.message.specs.declared.Reading.{Reading}
-use Rattle.message.specs.Reader.{accepted_of, read_of}
+use Rattle.message.specs.Reader.{Reading, accepted_of, read_of}
 use Rattle.message.specs.Writer.{write_answer, write_out}
 use Rattle.message.specs.Obeying.{Obeys, OurForm, Lawful}
 use Rattle.message.proofs.Fitting.{read_fits}

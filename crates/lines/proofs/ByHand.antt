@@ -2,6 +2,7 @@
 -- figures are document 01's, or our papers' where it leaves them open, and come from no definition, so a mark that is read wrong in the
 -- code and in its definition alike is found here.
 -- Assumes nothing.
+use Rattle.std.specs.Prelude.{None, Some}
 use Prim.Native.Nat.{ℕ}
 use mathlib.Core.Path.{◌≡◌, refl}
 use mathlib.Core.List.{List, [], ◌∷◌, ◌++◌, map}
@@ -9,7 +10,6 @@ use mathlib.Core.Bool.{Bool, true, false}
 use lib.ListN.{replicate}
 use Rattle.octets.specs.Run as Run
 use Rattle.numbers.specs.Number as Number
-use Rattle.cells.specs.declared.Found.TheVariants.{Nothing, At}
 use Rattle.cells.specs.Search as Search
 use Rattle.lines.specs.declared.Line.{Line}
 use Rattle.lines.specs.Lines.{line_from, line_limit, line_with}
@@ -49,8 +49,8 @@ abbrev l1 : Line
 l1 = line (key 76 49) true
 
 -- Q 1 alone; behind L 1, which has its control and another centre; dead, before a live one with the same key; not there
-pub searches : (line_with (key 81 49) (q1 ∷ []) ≡ At 0) × (line_with (key 81 49) (l1 ∷ q1 ∷ []) ≡ At 1)
-    × (line_with (key 81 49) (l1 ∷ line (key 81 49) false ∷ q1 ∷ []) ≡ At 1) × (line_with (key 81 49) (l1 ∷ []) ≡ Nothing)
+pub searches : (line_with (key 81 49) (q1 ∷ []) ≡ Some 0) × (line_with (key 81 49) (l1 ∷ q1 ∷ []) ≡ Some 1)
+    × (line_with (key 81 49) (l1 ∷ line (key 81 49) false ∷ q1 ∷ []) ≡ Some 1) × (line_with (key 81 49) (l1 ∷ []) ≡ None)
 unfolding Search.first
 searches = (refl, refl, refl, refl)
 

@@ -8,7 +8,6 @@ ghost use Rattle.lines.specs.Lines.{line_from, line_bytes, mark, no_line, line_l
 ghost use Rattle.lines.specs.Lines.{line_with, line_in, with_line, with_dead};
 
 use bounds::lesser;
-use cells::Found;
 
 // The key is the centre and the control. `place` is the number of the message that first made the trade.
 #[derive(Clone, Copy)]
@@ -54,19 +53,19 @@ pub fn limit(room: usize) -> usize
 }
 
 // The first used line that bears the key.
-pub fn find(lines: &[u8], used: usize, key: [u8; KEY]) -> Found
+pub fn find(lines: &[u8], used: usize, key: [u8; KEY]) -> Option<usize>
     ensures { result ≡ line_with key (used_lines lines.now used) }
 {
     let n = lesser(used, limit(lines.len()));
     let mut i: usize = 0;
     let found = 'lines: loop {
         if n <= i {
-            break 'lines Found::Nothing;
+            break 'lines None;
         }
         let mut j: usize = 0;
         'bytes: loop {
             if j == KEY {
-                break 'lines Found::At(i);
+                break 'lines Some(i);
             }
             if lines[i * CELL + j] != key[j] {
                 break 'bytes;

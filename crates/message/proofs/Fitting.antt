@@ -22,10 +22,9 @@ use Rattle.records.specs.Zeros.{no_sale, no_record}
 use Rattle.records.specs.Held.{number_in, text_in, sale_from, new_from, record_from, read_by, filled_in}
 use Rattle.records.proofs.Fitting.{no_record_fits}
 use Rattle.records.proofs.Held.{read_typed, typed_fits, obeys_stored}
-use Rattle.message.specs.declared.Reading.{Reading}
 use Rattle.formats.specs.Formats.{letter_place, letter_in, layout_for, fields_of}
 use Rattle.formats.proofs.Good.{good}
-use Rattle.message.specs.Reader.{obeys_in, read_of}
+use Rattle.message.specs.Reader.{Reading, obeys_in, read_of}
 use Rattle.message.proofs.Said.{Said, unshaped, unkept, obeyed, said}
 
 filled_fits : (e : Edition) (o : Option Layout) → All (Good (letter_place e)) o → (m : List ℕ) → Bytes m → obeys_in o m ≡ true

@@ -2,16 +2,18 @@
 -- that contract as the compiler hands it to a caller: of the arguments, of the result, and of the arguments again as
 -- the call returns.
 -- Assumes nothing.
-use mathlib.Core.Path.{◌≡◌, refl, sym, ◌∙◌}
+use mathlib.Core.Path.{◌≡◌, refl, ap, sym, ◌∙◌}
 use contract.Lifetimes.{Lfts}
 use borrow.Fn.World.{ArgsD}
 use borrow.Fn.Kinds.{ended_of}
 use denote.Triple.Clauses.{AtExit}
-use Rattle.answers.specs.declared.Answer.{Answer}
+use Rattle.answers.specs.Answers.{Answer}
 use Rattle.records.specs.Fits.{RecordFits}
 use Rattle.records.specs.Packed.{record_bytes, record_of}
-use Rattle.message.specs.declared.Reading.{Reading}
-use Rattle.message.specs.Reader.{read_of}
+use Rattle.std.specs.Prelude.{Result, Ok, Err}
+use Rattle.answers.specs.declared.Refusal.{Refusal}
+use Rattle.records.specs.declared.Record.{Record}
+use Rattle.message.specs.Reader.{Reading, reading_of, read_of}
 use Rattle.message.specs.Writer.{write_answer, write_out}
 use Rattle.message.specs.contracts.read as read
 use Rattle.message.proofs.read.Reads as read-reads
@@ -26,15 +28,22 @@ use Rattle.message.specs.contracts.write_packed as write-packed
 use Rattle.message.proofs.write_packed.Reads as write-packed-reads
 use Rattle.message.proofs.write_packed.Kinds as write-packed-kinds
 
+-- a reading says one thing of a message
+one_reading : (r r' : Result Record Refusal) → reading_of r ≡ reading_of r' → r ≡ r'
+one_reading (Ok r) (Ok r') e = ap (λ (q : Reading). Ok q.found) e
+one_reading (Ok r) (Err f') e = let a : ◌≡◌ {A = Answer} (Ok tt) (Err f') = ap (λ (q : Reading). q.answer) e in cc
+one_reading (Err f) (Ok r') e = let a : ◌≡◌ {A = Answer} (Err f) (Ok tt) = ap (λ (q : Reading). q.answer) e in cc
+one_reading (Err f) (Err f') e = let a : ◌≡◌ {A = Answer} (Err f) (Err f') = ap (λ (q : Reading). q.answer) e in cc
+
 module _ (κs : Lfts 1) (a : ArgsD read.signature κs) where
   -- what `read` tells of a message is what `read_of` says of its bytes, and nothing else
-  pub read_says : (r : Reading) (s : AtExit (ended_of 1 read-kinds.ps read-kinds.r) κs)
-      → read-reads.Learnt κs a r s ≡ (r ≡ read_of a.0 a.1.0.now)
+  pub read_says : (r : Result Record Refusal) (s : AtExit (ended_of 1 read-kinds.ps read-kinds.r) κs)
+      → read-reads.Learnt κs a r s ≡ (reading_of r ≡ read_of a.0 a.1.0.now)
   read_says r s = refl
 
-  pub read_one : (r r' : Reading) (s s' : AtExit (ended_of 1 read-kinds.ps read-kinds.r) κs) → read-reads.Learnt κs a r s
+  pub read_one : (r r' : Result Record Refusal) (s s' : AtExit (ended_of 1 read-kinds.ps read-kinds.r) κs) → read-reads.Learnt κs a r s
       → read-reads.Learnt κs a r' s' → r ≡ r'
-  read_one r r' s s' h h' = h ∙ sym h'
+  read_one r r' s s' h h' = one_reading r r' (h ∙ sym h')
 
 module _ (κs : Lfts 1) (a : ArgsD write.signature κs) where
   pub write_says : (r : Answer) (s : AtExit (ended_of 1 write-kinds.ps write-kinds.r) κs)

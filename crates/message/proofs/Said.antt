@@ -1,6 +1,6 @@
 -- The three answers of the reader, by its tests: the length of the message, whether its fields can be stored, and the rules of its record.
 -- Assumes nothing.
-use mathlib.Core.Path.{◌≡◌, refl, ap, sym, subst, ◌∙◌}
+use mathlib.Core.Path.{◌≡◌, refl, ap, ap₂, sym, subst, ◌∙◌}
 use mathlib.Core.Bool.{Bool, true, false, not, ◌&&◌, ◌||◌}
 use mathlib.Core.List.{List}
 use mathlib.Core.Option.{Option, none, some}
@@ -12,11 +12,14 @@ use Rattle.octets.specs.Run.{Bytes}
 use Rattle.editions.specs.declared.Edition.{Edition}
 use Rattle.kinds.specs.declared.Kind.{Kind}
 use Rattle.kinds.specs.Kinds.{kind_of}
-use Rattle.answers.specs.declared.Answer.{Answer}
-use Rattle.answers.specs.declared.Answer.TheVariants.{Done, NoType, FieldBroken}
+use Rattle.answers.specs.Answers.{Answer}
+use Rattle.std.specs.Prelude.{Ok, Err}
+use Rattle.answers.specs.declared.Refusal.{Refusal}
+use Rattle.answers.specs.declared.Refusal.TheVariants.{NoType, FieldBroken}
 use Rattle.layout.specs.Tables.{Layout, obeys_by, ready_by}
 use Rattle.layout.proofs.Forms.{clash}
 use Rattle.layout.proofs.Good.{Good, All}
+use Rattle.records.specs.declared.Record.{Record}
 use Rattle.records.specs.Held.{read_by, kept, lawful, size_in, filled_in, ready_in}
 use Rattle.records.specs.Packed.{record_of, record_bytes}
 use Rattle.records.proofs.Stores.{no_bytes}
@@ -25,7 +28,7 @@ use Rattle.records.proofs.Again.{typed_again}
 use Rattle.formats.specs.Formats.{letter_place, letter_in, layout_of, layout_for, fields_of}
 use Rattle.formats.proofs.Good.{good}
 use Rattle.judge.specs.Judged.{kept_in}
-use Rattle.message.specs.Reader.{refused_of, accepted_of, shaped_in, obeys_in, read_in, read_of}
+use Rattle.message.specs.Reader.{Reading, reading_of, refused_of, accepted_of, shaped_in, obeys_in, read_in, read_of}
 
 -- ---- by any layout
 
@@ -78,28 +81,28 @@ module _ (e : Edition) (k : Kind) (m : List ℕ) (q : k ≡ kind_of (letter_in e
   say a b h = subst (Says a b) q h
 
   pub told_unshaped : misshapen o m ≡ true
-      → (NoType ≡ (read_of e m).answer) × (replicate 80 0 ≡ record_bytes (read_of e m).found)
+      → ((Err NoType) ≡ (read_of e m).answer) × (replicate 80 0 ≡ record_bytes (read_of e m).found)
   unfolding read_in
   told_unshaped t =
       let s : shaped_in o m ≡ false = not-true (shaped_in o m) (sym (shape_test e o (good e k) m) ∙ t) in
-      say NoType (replicate 80 0) (rw s, rw s (sym no_bytes))
+      say (Err NoType) (replicate 80 0) (rw s, rw s (sym no_bytes))
 
   module _ (g : Bytes m) (t : misshapen o m ≡ false) (b : List ℕ) (f : b ≡ record_bytes (filled_in o m)) where
     shaped : shaped_in o m ≡ true
     shaped = not-false (shaped_in o m) (sym (shape_test e o (good e k) m) ∙ t)
 
-    pub told_obeyed : ready_in o m && kept_in o (record_of b) ≡ true → (Done ≡ (read_of e m).answer) × (b ≡ record_bytes (read_of e m).found)
+    pub told_obeyed : ready_in o m && kept_in o (record_of b) ≡ true → ((Ok tt) ≡ (read_of e m).answer) × (b ≡ record_bytes (read_of e m).found)
     unfolding read_in
     told_obeyed p =
         let y : obeys_in o m ≡ true = obeyed_is e o (good e k) m g shaped b f ∙ p in
-        say Done b (rw (shaped, y), rw (shaped, y) f)
+        say (Ok tt) b (rw (shaped, y), rw (shaped, y) f)
 
     pub told_unkept : ready_in o m && kept_in o (record_of b) ≡ false
-        → (FieldBroken ≡ (read_of e m).answer) × (replicate 80 0 ≡ record_bytes (read_of e m).found)
+        → ((Err FieldBroken) ≡ (read_of e m).answer) × (replicate 80 0 ≡ record_bytes (read_of e m).found)
     unfolding read_in
     told_unkept p =
         let y : obeys_in o m ≡ false = obeyed_is e o (good e k) m g shaped b f ∙ p in
-        say FieldBroken (replicate 80 0) (rw (shaped, y), rw (shaped, y) (sym no_bytes))
+        say (Err FieldBroken) (replicate 80 0) (rw (shaped, y), rw (shaped, y) (sym no_bytes))
 
 -- ---- and what may be said of a message
 
@@ -123,3 +126,20 @@ module _ (e : Edition) (m : List ℕ) where
       shape : (b : Bool) → shaped_in by m ≡ b → Said
       shape false q = unshaped q (simp q)
       shape true q = judge q (obeys_in by m) refl
+
+-- ---- an answer alone tells the reading
+
+-- where it refuses, the record is of zeros
+pub read_refused : (e : Edition) (m : List ℕ) (f : Refusal) → Err f ≡ (read_of e m).answer → reading_of (Err f) ≡ read_of e m
+read_refused e m f h = go (said e m)
+  where
+    go : Said e m → reading_of (Err f) ≡ read_of e m
+    go (unshaped s q) = cc
+    go (unkept s o q) = cc
+    go (obeyed s o q) = cc
+
+-- where it does not, the record is what was found
+pub read_done : (e : Edition) (m : List ℕ) (r : Record) → Ok tt ≡ (read_of e m).answer → r ≡ (read_of e m).found → reading_of (Ok r) ≡ read_of e m
+read_done e m r h f =
+    let said : Answer → Record → Reading = λ a found. record { answer = a; found = found } in
+    ap₂ said h f

@@ -14,7 +14,8 @@ use Rattle.octets.proofs.Laws.{sets_front}
 use Rattle.editions.specs.declared.Edition.{Edition}
 use Rattle.kinds.specs.declared.Kind.{Kind}
 use Rattle.kinds.specs.Kinds.{kind_of}
-use Rattle.answers.specs.declared.Answer.TheVariants.{Done, FieldBroken, NoSpace}
+use Rattle.std.specs.Prelude.{Ok, Err}
+use Rattle.answers.specs.declared.Refusal.TheVariants.{FieldBroken, NoSpace}
 use Rattle.layout.specs.Values.{Sized}
 use Rattle.layout.specs.Tables.{Layout}
 use Rattle.layout.proofs.Good.{Good, All}
@@ -51,7 +52,7 @@ module _ (e : Edition) (k : Kind) (r : Record) (out : List ℕ) (q : k ≡ kind_
   bytes_found = ap (λ (j : Kind). bytes_in (layout_of e j) r) q
 
   pub written_done : Sized (holds r) → lawful_in (layout_of e k) r ≡ true → size_in (layout_of e k) ≤ length out
-      → (Done ≡ write_answer e r out) × (sets out 0 (bytes_in (layout_of e k) r) ≡ write_out e r out)
+      → ((Ok tt) ≡ write_answer e r out) × (sets out 0 (bytes_in (layout_of e k) r) ≡ write_out e r out)
   unfolding write_answer write_out
   written_done y t h =
       let o : lawful_of e r ≡ true = sym lawful_found ∙ t in
@@ -60,7 +61,7 @@ module _ (e : Edition) (k : Kind) (r : Record) (out : List ℕ) (q : k ≡ kind_
       (simp (o, n), ap (sets out 0) bytes_found ∙ simp (o, n) (sets_front (bytes_of e r) out (omega (arith, long_found))))
 
   pub written_short : lawful_in (layout_of e k) r ≡ true → length out < size_in (layout_of e k)
-      → (NoSpace ≡ write_answer e r out) × (out ≡ write_out e r out)
+      → ((Err NoSpace) ≡ write_answer e r out) × (out ≡ write_out e r out)
   unfolding write_answer write_out
   written_short t h =
       let o : lawful_of e r ≡ true = sym lawful_found ∙ t in
@@ -68,7 +69,7 @@ module _ (e : Edition) (k : Kind) (r : Record) (out : List ℕ) (q : k ≡ kind_
       let n : leb need (length out) ≡ false = lt-leb need (length out) (omega (arith, long_found)) in
       (simp (o, n) refl, simp (o, n) refl)
 
-  pub written_broken : lawful_in (layout_of e k) r ≡ false → (FieldBroken ≡ write_answer e r out) × (out ≡ write_out e r out)
+  pub written_broken : lawful_in (layout_of e k) r ≡ false → ((Err FieldBroken) ≡ write_answer e r out) × (out ≡ write_out e r out)
   unfolding write_answer write_out
   written_broken t =
       let o : lawful_of e r ≡ false = sym lawful_found ∙ t in

@@ -1,17 +1,26 @@
 -- What reading a message by an edition says: 0 and the record that it fills if it obeys the layout of its letter, 4 if no layout of the
 -- edition has its letter and its length, 5 if a field breaks its rule.
 -- Assumes nothing.
-use Rattle.std.specs.Prelude.{ℕ, List, Bool, false, cond, eqb, length}
+use Rattle.std.specs.Prelude.{ℕ, List, Bool, false, cond, eqb, length, Result, Ok, Err}
 use Rattle.std.proofs.Math.Option.{Option, none, some}
-use Rattle.answers.specs.Answers.{answer_of}
-use Rattle.answers.specs.declared.Answer.{Answer}
+use Rattle.answers.specs.declared.Refusal.{Refusal}
+use Rattle.answers.specs.Answers.{Answer, answer_of}
 use Rattle.editions.specs.declared.Edition.{Edition}
 use Rattle.layout.specs.Tables.{Layout, obeys_by}
 use Rattle.records.specs.declared.Record.{Record}
 use Rattle.records.specs.Zeros.{no_record}
 use Rattle.records.specs.Held.{filled_in}
-use Rattle.message.specs.declared.Reading.{Reading}
 use Rattle.formats.specs.Formats.{layout_for}
+
+-- what a reading says, with the record that it fills
+pub record Reading : Type 0 where
+  pub answer : Answer
+  pub found : Record
+
+-- a refused reading has a record of zeros
+abbrev pub reading_of : Result Record Refusal → Reading
+reading_of (Ok r) = record { answer = Ok tt; found = r }
+reading_of (Err refusal) = record { answer = Err refusal; found = no_record }
 
 -- a refusal by its number hands back a record of zeros
 abbrev pub refused_of : ℕ → Reading

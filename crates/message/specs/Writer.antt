@@ -1,8 +1,7 @@
 -- What writing a record by an edition says and leaves.
 -- Assumes nothing.
 use Rattle.std.specs.Prelude.{ℕ, List, ◌++◌, cond, leb, length, drop}
-use Rattle.answers.specs.Answers.{answer_of}
-use Rattle.answers.specs.declared.Answer.{Answer}
+use Rattle.answers.specs.Answers.{Answer, answer_of}
 use Rattle.editions.specs.declared.Edition.{Edition}
 use Rattle.records.specs.declared.Record.{Record}
 use Rattle.formats.specs.Formats.{length_by, bytes_of}

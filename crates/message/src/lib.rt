@@ -6,10 +6,10 @@
 ghost use Rattle.std.specs.Prelude.{◌≡◌};
 ghost use Rattle.records.specs.Fits.{RecordFits};
 ghost use Rattle.records.specs.Packed.{record_of, record_bytes};
-ghost use Rattle.message.specs.Reader.{read_of};
+ghost use Rattle.message.specs.Reader.{reading_of, read_of};
 ghost use Rattle.message.specs.Writer.{write_answer, write_out};
 
-use answers::Answer;
+use answers::Refusal;
 use editions::Edition;
 use formats::{length_of, letter_place, store, unpack};
 use judge::{kept, lawful};
@@ -18,16 +18,9 @@ use records::packed::letter;
 use records::{RECORD, Record};
 use single::byte;
 
-// What reading says back: a record of zeros where the answer is not `Done`.
-#[derive(Clone, Copy)]
-pub struct Reading {
-    pub answer: Answer,
-    pub found: Record,
-}
-
 // Reads a message into the eighty bytes of its record, for a caller who keeps records as bytes. Answers 0, 4 or 5;
 // where not 0, all eighty are 0.
-pub fn read_packed(edition: Edition, message: &[u8], b: &mut [u8; RECORD]) -> Answer
+pub fn read_packed(edition: Edition, message: &[u8], b: &mut [u8; RECORD]) -> Result<(), Refusal>
     ensures answer { result ≡ (read_of edition message.now).answer }
     ensures bytes { b.new ≡ record_bytes (read_of edition message.now).found }
 {
@@ -35,31 +28,28 @@ pub fn read_packed(edition: Edition, message: &[u8], b: &mut [u8; RECORD]) -> An
     let need = length_of(edition, kind);
     if (need == 0) | (message.len() != need) {
         *b = [0u8; RECORD];
-        return Answer::NoType;
+        return Err(Refusal::NoType);
     }
     let ready = unpack(edition, b, message, kind);
     if ready & kept(edition, b, kind) {
-        return Answer::Done;
+        return Ok(());
     }
     *b = [0u8; RECORD];
-    Answer::FieldBroken
+    Err(Refusal::FieldBroken)
 }
 
-// Reads a message as a record. Answers 0, 4 or 5.
-pub fn read(edition: Edition, message: &[u8]) -> Reading
-    ensures { result ≡ read_of edition message.now }
+// Reads a message as a record, or says 4 or 5.
+pub fn read(edition: Edition, message: &[u8]) -> Result<Record, Refusal>
+    ensures { reading_of result ≡ read_of edition message.now }
 {
     let mut b = [0u8; RECORD];
-    let a = read_packed(edition, message, &mut b);
-    Reading {
-        answer: a,
-        found: records::packed::record(&b),
-    }
+    read_packed(edition, message, &mut b)?;
+    Ok(records::packed::record(&b))
 }
 
 // Writes the message of the record that eighty bytes are at the front of out, and leaves the rest of out as it was.
 // Answers 0, 5 or 18; where not 0, out stays. Any eighty bytes are a record that fits its types.
-pub fn write_packed(edition: Edition, b: &[u8; RECORD], out: &mut [u8]) -> Answer
+pub fn write_packed(edition: Edition, b: &[u8; RECORD], out: &mut [u8]) -> Result<(), Refusal>
     ensures answer { result ≡ write_answer edition (record_of b.now) out.old }
     ensures left { out.new ≡ write_out edition (record_of b.now) out.old }
     ensures fits { RecordFits (record_of b.now) }
@@ -68,16 +58,16 @@ pub fn write_packed(edition: Edition, b: &[u8; RECORD], out: &mut [u8]) -> Answe
     if lawful(edition, b, kind) {
         if length_of(edition, kind) <= out.len() {
             store(edition, out, b, kind);
-            return Answer::Done;
+            return Ok(());
         }
-        return Answer::NoSpace;
+        return Err(Refusal::NoSpace);
     }
-    Answer::FieldBroken
+    Err(Refusal::FieldBroken)
 }
 
 // Writes the message of a record at the front of out, and leaves the rest of out as it was. Answers 0, 5 or 18; where
 // not 0, out stays.
-pub fn write(edition: Edition, r: Record, out: &mut [u8]) -> Answer
+pub fn write(edition: Edition, r: Record, out: &mut [u8]) -> Result<(), Refusal>
     ensures answer { result ≡ write_answer edition r out.old }
     ensures left { out.new ≡ write_out edition r out.old }
 {

@@ -1,5 +1,6 @@
 -- Which line of the wall is which, what the lines make together, and the turns of the loop that writes them.
 -- Assumes nothing.
+use Rattle.std.specs.Prelude.{None, Option, Some, ℕ}
 use mathlib.Core.Path.{◌≡◌, refl, ap, sym, ◌∙◌}
 use mathlib.Core.Bool.{Bool, true, false}
 use mathlib.Core.List.{List, [], ◌∷◌, ◌++◌, map, append-nil, append_assoc}
@@ -25,8 +26,6 @@ use Rattle.print.proofs.Whole.{sets_behind}
 use Rattle.print.specs.Texts.{header_text, row_text, closing_text, stop_text}
 use Rattle.book.specs.State.{State, rows_in, lines_in}
 use Rattle.tape.specs.Playing.{joined}
-use Rattle.page.specs.declared.Ending.{Ending}
-use Rattle.page.specs.declared.Ending.TheVariants.{Complete, StopsAt}
 use Rattle.page.specs.Page.{shown_row, row_lines, end_text, end_lines, wall_lines, line_of, wall_of}
 
 -- ---- which line is which
@@ -36,7 +35,7 @@ map_get f [] i a b h = absurd (omega arith)
 map_get f (x ∷ xs) zero a b h = refl
 map_get f (x ∷ xs) (suc i) a b h = map_get f xs i a b (omega arith)
 
-module _ (s : State) (e : Ending) where
+module _ (s : State) (e : Option ℕ) where
   abbrev closed : List ℕ
   closed = closing_text s.counters.taken s.counters.wanted
 
@@ -84,9 +83,9 @@ module _ (s : State) (e : Ending) where
   unfolding wall_lines
   lines_most = omega (arith, length-append (row_lines s) (closed ∷ end_lines e), rows_many, go e)
     where
-      go : (e : Ending) → length (end_lines e) ≤ 1
-      go Complete = omega arith
-      go (StopsAt n) = omega arith
+      go : (e : Option ℕ) → length (end_lines e) ≤ 1
+      go None = omega arith
+      go (Some n) = omega arith
 
   pub none_is : (k : ℕ) → length (rows_in s) + 3 ≤ k → [] ≡ line_of s e k
   unfolding line_of
@@ -105,7 +104,7 @@ row_text_lem s i kept f w e g h = ap row_text (h ∙ ap (shown_of kept) g ∙ ap
 -- ---- the lines together
 
 -- the first k lines, one behind the other
-abbrev pub so_far : State → Ending → ℕ → List ℕ
+abbrev pub so_far : State → Option ℕ → ℕ → List ℕ
 so_far s e k = joined (tab (line_of s e) 0 k)
 
 pub joined_append : (xs ys : List (List ℕ)) → joined (xs ++ ys) ≡ joined xs ++ joined ys
@@ -115,7 +114,7 @@ joined_append (x ∷ xs) ys = ap (λ (l : List ℕ). x ++ l) (joined_append xs y
 joined_snoc : (xs : List (List ℕ)) (y : List ℕ) → joined (xs ++ (y ∷ [])) ≡ joined xs ++ y
 joined_snoc xs y = joined_append xs (y ∷ []) ∙ ap (λ (l : List ℕ). joined xs ++ l) (append-nil y)
 
-pub one_more_lem : (s : State) (e : Ending) (k : ℕ) → so_far s e (k + 1) ≡ so_far s e k ++ line_of s e k
+pub one_more_lem : (s : State) (e : Option ℕ) (k : ℕ) → so_far s e (k + 1) ≡ so_far s e k ++ line_of s e k
 one_more_lem s e k =
     ap (so_far s e) (add-one k)
     ∙ ap joined (tab_snoc (line_of s e) 0 k)
@@ -140,7 +139,7 @@ in_order_lem (x ∷ xs) (suc n) h =
     ap (λ (l : List ℕ). x ++ l) (ap joined (tab_shift (λ (j : ℕ). get_or (x ∷ xs) j []) 0 n) ∙ in_order_lem xs n (omega arith))
 
 -- the wall is line 0, line 1 and so on to the last, and nothing else
-pub wall_lines_lem : (s : State) (e : Ending) (n : ℕ) → length (wall_lines s e) ≤ n → so_far s e n ≡ wall_of s e
+pub wall_lines_lem : (s : State) (e : Option ℕ) (n : ℕ) → length (wall_lines s e) ≤ n → so_far s e n ≡ wall_of s e
 unfolding wall_of line_of
 wall_lines_lem s e n h = in_order_lem (wall_lines s e) n h
 
@@ -194,7 +193,7 @@ pub rows_most : (m : List ℕ) (n r : ℕ) → r ≡ length (used_rows m n) → 
 rows_most m n r e = omega (arith, used_rows_length m n)
 
 -- after k lines: these stand in the space, as far as there is room, and the next is stored behind them
-module _ (s : State) (e : Ending) (l : List ℕ) where
+module _ (s : State) (e : Option ℕ) (l : List ℕ) where
   pub record Written (k at : ℕ) (out : List ℕ) : Type 0 where
     pub place : at ≡ min (length (so_far s e k)) (length l)
     pub bytes : out ≡ sets l 0 (so_far s e k)

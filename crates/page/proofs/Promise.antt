@@ -1,6 +1,7 @@
 -- Each public function's contract leaves one possible answer and one possible content for each lent byte. `Learnt` is that contract as
 -- the compiler hands it to a caller: of the arguments, of the result, and of the arguments again as the call returns.
 -- Assumes nothing.
+use Rattle.std.specs.Prelude.{Option, ℕ}
 use mathlib.Core.Path.{◌≡◌, refl, sym, ◌∙◌}
 use mathlib.Core.List.{List}
 use Prim.Native.Nat.{ℕ, min}
@@ -11,7 +12,6 @@ use borrow.Fn.World.{ArgsD}
 use borrow.Fn.Kinds.{ended_of}
 use denote.Triple.Clauses.{AtExit}
 use Rattle.book.specs.State.{State, lent}
-use Rattle.page.specs.declared.Ending.{Ending}
 use Rattle.page.specs.Page.{line_of, wall_of}
 use Rattle.page.specs.Printable.{Printable}
 use Rattle.page.specs.contracts.ended as ended
@@ -45,7 +45,7 @@ module _ (κs : Lfts (line.signature).lifetimes) (a : ArgsD line.signature κs) 
       ≡ ((s.1.1.1.1.1.0.now ≡ sets a.1.1.1.1.1.0.now 0 line_text) × (r ≡ length line_text))
   line_says r s = refl
 
-pub ended_one : (κs : Lfts 0) (a : ArgsD ended.signature κs) (e e' : Ending) (s s' : AtExit (ended_of 0 ended-kinds.ps ended-kinds.r) κs)
+pub ended_one : (κs : Lfts 0) (a : ArgsD ended.signature κs) (e e' : Option ℕ) (s s' : AtExit (ended_of 0 ended-kinds.ps ended-kinds.r) κs)
     → ended-reads.Learnt κs a e s → ended-reads.Learnt κs a e' s' → e ≡ e'
 ended_one κs a e e' s s' h h' = h ∙ sym h'
 
@@ -64,7 +64,7 @@ module _ (κs : WriteLfts) (a : WriteArgs κs) where
   abbrev pub write_from : State
   write_from = lent a.0 a.1.0.now a.1.1.0.now
 
-  abbrev pub write_ending : Ending
+  abbrev pub write_ending : Option ℕ
   write_ending = a.1.1.1.0
 
   -- the space, before and after

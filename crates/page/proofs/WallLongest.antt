@@ -1,5 +1,6 @@
 -- The longest wall that the types allow: a space that long holds any wall of so many rows.
 -- Assumes nothing.
+use Rattle.std.specs.Prelude.{None, Option, Some, ℕ}
 use Prim.Native.Nat.{ℕ, zero, suc, ◌+◌, ◌*◌, ◌^◌, ◌≤◌, ◌<◌, min}
 use mathlib.Core.Path.{◌≡◌, refl, ap, sym, subst, ◌∙◌}
 use mathlib.Core.Bool.{Bool, true, false, cond}
@@ -18,20 +19,15 @@ use Rattle.lines.specs.declared.Line.{Line}
 use Rattle.lines.specs.Cell.{line_cell, at_price}
 use Rattle.lines.specs.Lines.{line_from, line_at, line_limit, used_lines}
 use Rattle.rows.specs.declared.Row.{Row}
-use Rattle.rows.specs.declared.Reported.TheVariants.{NotSet, Volume}
 use Rattle.rows.specs.Cell.{row_cell, at_close, at_reported, at_volume}
 use Rattle.rows.specs.Rows.{listing_from, row_from, reported_at, row_at, row_limit, used_rows}
 use Rattle.rows.proofs.Slabs.{used_rows_length}
 use Rattle.conditions.specs.Conditions.{condition_marks}
-use Rattle.figures.specs.declared.Price.{Price}
-use Rattle.figures.specs.declared.Price.TheVariants.{Absent, Of}
-use Rattle.figures.specs.declared.Last.{Last}
-use Rattle.figures.specs.declared.Last.TheVariants.{NoLast, Trade}
+use Rattle.figures.specs.Figures.{last_trade}
 use Rattle.figures.specs.declared.Figures.{Figures}
 use Rattle.figures.specs.Figures.{raise, lower, later, no_figures, sold}
 use Rattle.walk.specs.Walking.{counts, dealt, tally, fold, figures_of}
 use Rattle.walk.proofs.Meaning.{volume_fits, count_fits}
-use Rattle.show.specs.declared.Net.TheVariants.{NoNet, Amount}
 use Rattle.show.specs.Showing.{last_of, net_of, shown_of}
 use Rattle.show.specs.Fits.{NetFits}
 use Rattle.show.proofs.Signed.{below}
@@ -40,11 +36,10 @@ use Rattle.print.specs.Fits.{PriceFits, ReportedFits, RowFits, header_longest, r
 use Rattle.print.proofs.Longest.{header_longest_lem, row_longest_lem, closing_longest_lem, stop_longest_lem}
 use Rattle.book.specs.State.{State, rows_in, lines_in}
 use Rattle.tape.specs.Playing.{joined}
-use Rattle.page.specs.declared.Ending.{Ending}
-use Rattle.page.specs.declared.Ending.TheVariants.{Complete, StopsAt}
 use Rattle.page.specs.Page.{shown_row, row_lines, end_lines, wall_lines, wall_of}
 use Rattle.page.proofs.Laws.{joined_append}
 use Rattle.page.specs.Printable.{Printable, EndingFits, wall_longest}
+use Rattle.figures.specs.declared.LastTrade.{LastTrade}
 
 -- ---- the figures of lines whose prices have 32 bits
 
@@ -53,17 +48,18 @@ pub record Priced (f : Figures) : Type 0 where
   pub low : PriceFits f.low
   pub last : PriceFits (last_of f.last)
 
-raised : (q : Price) (p : ℕ) → PriceFits q → p < 2 ^ 32 → PriceFits (raise q p)
-raised Absent p h k = k
-raised (Of q) p h k = either_way PriceFits (ltb q p) (Of p) (Of q) k h
+raised : (q : Option ℕ) (p : ℕ) → PriceFits q → p < 2 ^ 32 → PriceFits (raise q p)
+raised None p h k = k
+raised (Some q) p h k = either_way PriceFits (ltb q p) (Some p) (Some q) k h
 
-lowered : (q : Price) (p : ℕ) → PriceFits q → p < 2 ^ 32 → PriceFits (lower q p)
-lowered Absent p h k = k
-lowered (Of q) p h k = either_way PriceFits (ltb p q) (Of p) (Of q) k h
+lowered : (q : Option ℕ) (p : ℕ) → PriceFits q → p < 2 ^ 32 → PriceFits (lower q p)
+lowered None p h k = k
+lowered (Some q) p h k = either_way PriceFits (ltb p q) (Some p) (Some q) k h
 
-renewed : (q : Last) (v p : ℕ) → PriceFits (last_of q) → p < 2 ^ 32 → PriceFits (last_of (later q v p))
-renewed NoLast v p h k = k
-renewed (Trade u q) v p h k = either_way (λ (x : Last). PriceFits (last_of x)) (ltb u v) (Trade v p) (Trade u q) k h
+renewed : (q : Option LastTrade) (v p : ℕ) → PriceFits (last_of q) → p < 2 ^ 32 → PriceFits (last_of (later q v p))
+renewed None v p h k = k
+renewed (Some last) v p h k =
+    either_way (λ (x : Option LastTrade). PriceFits (last_of x)) (ltb last.place v) (Some (last_trade v p)) (Some last) k h
 
 one_line : (symbol : List ℕ) (f : Figures) (l : Line) → Priced f → l.price < 2 ^ 32 → Priced (tally symbol f l)
 unfolding tally sold
@@ -78,7 +74,7 @@ one_line symbol f l h k =
           either_way PriceFits m.high_low (lower f.low l.price) f.low
           (lowered f.low l.price h.low k) h.low;
       last =
-          either_way (λ (x : Last). PriceFits (last_of x)) m.last (later f.last l.place l.price) f.last
+          either_way (λ (x : Option LastTrade). PriceFits (last_of x)) m.last (later f.last l.place l.price) f.last
           (renewed f.last l.place l.price h.last k) h.last;
     })
     h
@@ -98,17 +94,17 @@ priced m b symbol used =
 
 -- ---- a row
 
-net_small : (p : Price) (close : ℕ) → PriceFits p → close < 2 ^ 32 → NetFits (net_of p close)
-net_small Absent close h k = tt
-net_small (Of p) close h k = either_way NetFits (eqb close 0) NoNet (Amount (pos p -ℤ pos close)) tt (below p close h k)
+net_small : (p : Option ℕ) (close : ℕ) → PriceFits p → close < 2 ^ 32 → NetFits (net_of p close)
+net_small None close h k = tt
+net_small (Some p) close h k = either_way NetFits (eqb close 0) None (Some (pos p -ℤ pos close)) tt (below p close h k)
 
 reported_small : (m : List ℕ) (at : ℕ) → Bytes m → ReportedFits (reported_at m at)
 unfolding reported_at
 reported_small m at b =
-    either_way ReportedFits (eqb (get_or m (at + at_reported) 0) 1) (Volume (be (part m (at + at_volume) 8))) NotSet
+    either_way ReportedFits (eqb (get_or m (at + at_reported) 0) 1) (Some (be (part m (at + at_volume) 8))) None
     (omega (arith, be_below m (at + at_volume) 8 b)) tt
 
-module _ (s : State) (e : Ending) (h : Printable s e) where
+module _ (s : State) (e : Option ℕ) (h : Printable s e) where
   row_fits : (i : ℕ) → RowFits (shown_row s (row_at s.rows i))
   unfolding shown_of row_from listing_from
   row_fits i =
@@ -140,9 +136,9 @@ module _ (s : State) (e : Ending) (h : Printable s e) where
         suc-mul n row_longest,
       )
 
-  ends_longest : (e : Ending) → EndingFits e → length (joined (end_lines e)) ≤ stop_longest
-  ends_longest Complete f = omega arith
-  ends_longest (StopsAt n) f = omega (arith, length-append (stop_text n) [], stop_longest_lem n f)
+  ends_longest : (e : Option ℕ) → EndingFits e → length (joined (end_lines e)) ≤ stop_longest
+  ends_longest None f = omega arith
+  ends_longest (Some n) f = omega (arith, length-append (stop_text n) [], stop_longest_lem n f)
 
   -- no wall is longer
   pub wall_longest_lem : length (wall_of s e) ≤ wall_longest (length (rows_in s))

@@ -1,6 +1,6 @@
 -- The printed wall: its lines in order, the text that they are, and the wall of a whole tape.
 -- Assumes nothing.
-use Rattle.std.specs.Prelude.{ℕ, List, [], ◌∷◌, ◌++◌, map, get_or}
+use Rattle.std.specs.Prelude.{ℕ, List, [], ◌∷◌, ◌++◌, map, get_or, None, Option, Some}
 use Rattle.editions.specs.declared.Edition.TheVariants.{NlsPlus}
 use Rattle.counters.specs.Counting.{fresh_counters}
 use Rattle.rows.specs.declared.Row.{Row}
@@ -12,8 +12,6 @@ use Rattle.book.specs.State.{State, with_counters, rows_in, lines_in}
 use Rattle.tape.specs.declared.Stop.{Stop}
 use Rattle.tape.specs.declared.Stop.TheVariants.{Ended, NoKind, CutShort}
 use Rattle.tape.specs.Playing.{Play, played, joined}
-use Rattle.page.specs.declared.Ending.{Ending}
-use Rattle.page.specs.declared.Ending.TheVariants.{Complete, StopsAt}
 
 -- ---- the lines
 
@@ -26,33 +24,33 @@ abbrev pub row_lines : State → List (List ℕ)
 row_lines s = map (λ (w : Row). row_text (shown_row s w)) (rows_in s)
 
 -- TAPE STOPS AT, where it does; none where nothing of the tape was left
-abbrev pub end_lines : Ending → List (List ℕ)
-end_lines Complete = []
-end_lines (StopsAt n) = stop_text n ∷ []
+abbrev pub end_lines : Option ℕ → List (List ℕ)
+end_lines None = []
+end_lines (Some n) = stop_text n ∷ []
 
 -- what that line says, and nothing where there is none
-abbrev pub end_text : Ending → List ℕ
+abbrev pub end_text : Option ℕ → List ℕ
 end_text e = get_or (end_lines e) 0 []
 
 -- the columns' names, the rows, the closing line, and then where the tape stops
-unfoldable pub wall_lines : State → Ending → List (List ℕ)
+unfoldable pub wall_lines : State → Option ℕ → List (List ℕ)
 wall_lines s e = header_text ∷ (row_lines s ++ (closing_text s.counters.taken s.counters.wanted ∷ end_lines e))
 
 -- line k, and nothing past the last
-unfoldable pub line_of : State → Ending → ℕ → List ℕ
+unfoldable pub line_of : State → Option ℕ → ℕ → List ℕ
 line_of s e k = get_or (wall_lines s e) k []
 
 -- ---- the whole
 
 -- line after line
-unfoldable pub wall_of : State → Ending → List ℕ
+unfoldable pub wall_of : State → Option ℕ → List ℕ
 wall_of s e = joined (wall_lines s e)
 
 -- how a play ended: nothing was left, or what is left cannot be played
-abbrev pub ending_at : Stop → ℕ → Ending
-ending_at Ended n = Complete
-ending_at NoKind n = StopsAt n
-ending_at CutShort n = StopsAt n
+abbrev pub ending_at : Stop → ℕ → Option ℕ
+ending_at Ended n = None
+ending_at NoKind n = Some n
+ending_at CutShort n = Some n
 
 abbrev pub wall_after : Play → List ℕ
 wall_after p = wall_of p.state (ending_at p.stop p.used)

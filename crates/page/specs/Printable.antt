@@ -1,18 +1,16 @@
 -- What the types say of all that a wall is printed from, and the longest wall that they allow.
 -- Assumes nothing.
-use Rattle.std.specs.Prelude.{ℕ, ◌+◌, ◌*◌, ◌^◌, ◌<◌}
+use Rattle.std.specs.Prelude.{ℕ, ◌+◌, ◌*◌, ◌^◌, ◌<◌, None, Option, Some}
 use Rattle.octets.specs.Run.{Bytes}
 use Rattle.print.specs.Fits.{header_longest, row_longest, closing_longest, stop_longest}
 use Rattle.book.specs.State.{State}
-use Rattle.page.specs.declared.Ending.{Ending}
-use Rattle.page.specs.declared.Ending.TheVariants.{Complete, StopsAt}
 
-abbrev pub EndingFits : Ending → Type 0
-EndingFits Complete = Unit
-EndingFits (StopsAt n) = n < 2 ^ 64
+abbrev pub EndingFits : Option ℕ → Type 0
+EndingFits None = Unit
+EndingFits (Some n) = n < 2 ^ 64
 
 -- the rooms are bytes, the numbers have their widths
-pub record Printable (s : State) (e : Ending) : Type 0 where
+pub record Printable (s : State) (e : Option ℕ) : Type 0 where
   pub rows : Bytes s.rows
   pub lines : Bytes s.lines
   pub taken : s.counters.taken < 2 ^ 64

@@ -14,21 +14,15 @@ use counters::Counters;
 use single::left;
 use tape::Stop;
 
-// How a tape came to its end: with nothing left of it, or at the offset of the kind byte of what cannot be played.
-#[derive(Clone, Copy)]
-pub enum Ending {
-    Complete,
-    StopsAt(u64),
-}
-
-// How a tape ended whose play stands at an offset for that reason.
-pub fn ended(stop: Stop, at: u64) -> Ending
+// Where a tape stops whose play stands at an offset for that reason: at the kind byte of what cannot be played, or
+// nowhere, if nothing is left of it.
+pub fn ended(stop: Stop, at: u64) -> Option<u64>
     ensures { result ≡ ending_at stop at }
 {
     match stop {
-        Stop::Ended => Ending::Complete,
-        Stop::NoKind => Ending::StopsAt(at),
-        Stop::CutShort => Ending::StopsAt(at),
+        Stop::Ended => None,
+        Stop::NoKind => Some(at),
+        Stop::CutShort => Some(at),
     }
 }
 
@@ -54,13 +48,13 @@ fn row_line(c: Counters, rows: &[u8], lines: &[u8], i: usize, out: &mut [u8]) ->
 }
 
 // The line that says where the tape stops, if it does.
-fn end_line(ending: Ending, out: &mut [u8]) -> usize
+fn end_line(ending: Option<u64>, out: &mut [u8]) -> usize
     ensures bytes { out.new ≡ sets out.old 0 (end_text ending) }
     ensures count { result ≡ length (end_text ending) }
 {
     match ending {
-        Ending::Complete => 0,
-        Ending::StopsAt(at) => print::stops(at, out),
+        None => 0,
+        Some(at) => print::stops(at, out),
     }
 }
 
@@ -70,7 +64,7 @@ pub fn line(
     c: Counters,
     rows: &[u8],
     lines: &[u8],
-    ending: Ending,
+    ending: Option<u64>,
     k: usize,
     out: &mut [u8],
 ) -> usize
@@ -96,7 +90,7 @@ pub fn line(
 
 // Writes the whole wall, as far as there is room, and tells how many bytes that are. The clause `types` says what the
 // types of the parameters say of what came in.
-pub fn write(c: Counters, rows: &[u8], lines: &[u8], ending: Ending, out: &mut [u8]) -> usize
+pub fn write(c: Counters, rows: &[u8], lines: &[u8], ending: Option<u64>, out: &mut [u8]) -> usize
     ensures bytes { out.new
         ≡ sets out.old 0 (wall_of (lent c rows.now lines.now) ending) }
     ensures count { result

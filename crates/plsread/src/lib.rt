@@ -22,13 +22,8 @@ use kinds::Kind;
 use number::read_number;
 use numbers::put4;
 use octets::run::fill;
-use pls::{
-    DECIMALS, DIGITS, LONGEST, M_BODY, M_CONDITION, M_LETTER, M_NEW, M_PRICE, M_SALE, M_SIZE,
-    M_TIME, NAMED, PRICE_WIDTH, SIZE_WIDTH, TIME_WIDTH, length_of,
-};
-use records::{
-    CENTRE, CONDITION, CONTROL_WIDTH, EVENT, LETTER, NEW_SALE, OLD_SALE, PRICE, RECORD, SIZE, TIME,
-};
+use pls::{DECIMALS, DIGITS, LONGEST, M_BODY, M_CONDITION, M_LETTER, M_NEW, M_PRICE, M_SALE, M_SIZE, M_TIME, NAMED, PRICE_WIDTH, SIZE_WIDTH, TIME_WIDTH, length_of};
+use records::{CENTRE, CONDITION, CONTROL_WIDTH, EVENT, LETTER, NEW_SALE, OLD_SALE, PRICE, RECORD, SIZE, TIME};
 
 // One more than a record's numbers hold.
 const BOUND: u64 = 4294967296;

@@ -17,14 +17,8 @@ use kinds::Kind;
 use number::put_number;
 use numbers::number4;
 use octets::run::paste;
-use pls::{
-    DECIMALS, DIGITS, LONGEST, M_BODY, M_CONDITION, M_LETTER, M_NEW, M_PRICE, M_SALE, M_SIZE,
-    M_TIME, NAMED, PRICE_FULL, PRICE_WIDTH, SIZE_FULL, SIZE_WIDTH, TIME_FULL, TIME_WIDTH,
-    length_of,
-};
-use records::{
-    CENTRE, CONDITION, CONTROL_WIDTH, EVENT, LETTER, NEW_SALE, OLD_SALE, PRICE, SIZE, TIME,
-};
+use pls::{DECIMALS, DIGITS, LONGEST, M_BODY, M_CONDITION, M_LETTER, M_NEW, M_PRICE, M_SALE, M_SIZE, M_TIME, NAMED, PRICE_FULL, PRICE_WIDTH, SIZE_FULL, SIZE_WIDTH, TIME_FULL, TIME_WIDTH, length_of};
+use records::{CENTRE, CONDITION, CONTROL_WIDTH, EVENT, LETTER, NEW_SALE, OLD_SALE, PRICE, SIZE, TIME};
 
 // Stores a trade of a record: control, price, size, condition.
 fn put_sale(out: &mut [u8], to: usize, b: &[u8], at: usize)

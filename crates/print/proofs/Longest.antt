@@ -1,5 +1,6 @@
 -- The longest lines that the types allow, each with a line that is so long.
 -- Assumes nothing.
+use Rattle.std.specs.Prelude.{None, Option, Some, ℕ, ℤ}
 use mathlib.Core.Path.{◌≡◌, refl}
 use mathlib.Core.Bool.{Bool, true, false}
 use mathlib.Core.List.{List, [], ◌∷◌}
@@ -9,12 +10,6 @@ use borrow.Author.Tests.{ltb-true, ltb-false}
 use lib.Dec.{ltb, lit<}
 use lib.IntN.{negsuc}
 use lib.ListN.{length, length-append}
-use Rattle.rows.specs.declared.Reported.{Reported}
-use Rattle.rows.specs.declared.Reported.TheVariants.{NotSet, Volume}
-use Rattle.figures.specs.declared.Price.{Price}
-use Rattle.figures.specs.declared.Price.TheVariants.{Absent, Of}
-use Rattle.show.specs.declared.Net.{Net}
-use Rattle.show.specs.declared.Net.TheVariants.{NoNet, Amount}
 use Rattle.show.specs.declared.RowShown.{RowShown}
 use Rattle.decimal.specs.Decimal.{digit_count, lowest, decimal}
 use Rattle.decimal.specs.Letters.{letters}
@@ -28,20 +23,20 @@ use Rattle.print.proofs.Padding.{unpadded_short}
 
 -- ---- figures
 
-price_most : (p : Price) → PriceFits p → length (price_text p) ≤ 11
-price_most Absent h = omega arith
-price_most (Of p) h = omega (arith, amount_most 5 p (omega arith))
+price_most : (p : Option ℕ) → PriceFits p → length (price_text p) ≤ 11
+price_most None h = omega arith
+price_most (Some p) h = omega (arith, amount_most 5 p (omega arith))
 
-net_most : (n : Net) → NetFits n → length (net_text n) ≤ 21
-net_most NoNet h = omega arith
-net_most (Amount z) h = signed_short z h
+net_most : (n : Option ℤ) → NetFits n → length (net_text n) ≤ 21
+net_most None h = omega arith
+net_most (Some z) h = signed_short z h
 
 count_longest : (n : ℕ) → n < 2 ^ 64 → length (count_text n) ≤ 20
 count_longest n h = decimal_short n h
 
-reported_most : (r : Reported) → ReportedFits r → length (reported_text r) ≤ 20
-reported_most NotSet h = omega arith
-reported_most (Volume v) h = count_longest v h
+reported_most : (r : Option ℕ) → ReportedFits r → length (reported_text r) ≤ 20
+reported_most None h = omega arith
+reported_most (Some v) h = count_longest v h
 
 -- ---- lines
 
@@ -73,14 +68,14 @@ long_row =
     record {
       symbol = letters "ABCDEFGH";
       close = 0;
-      last = Of 4294967295;
-      high = Of 4294967295;
-      low = Of 4294967295;
-      net = Amount (negsuc 9223372036854775807);
+      last = Some 4294967295;
+      high = Some 4294967295;
+      low = Some 4294967295;
+      net = Some (negsuc 9223372036854775807);
       volume = 18446744073709551615;
       count = 18446744073709551615;
       agrees = false;
-      reported = Volume 18446744073709551615;
+      reported = Some 18446744073709551615;
     }
 
 pub row_attained : RowFits long_row × (length (row_text long_row) ≡ row_longest)

@@ -1,24 +1,19 @@
 -- The day W as document 01 prints it, and texts worked by hand, as one list.
 -- Assumes nothing.
+use Rattle.std.specs.Prelude.{None, Option, Some, ℕ, ℤ}
 use mathlib.Core.Path.{◌≡◌, refl}
 use mathlib.Core.Bool.{false}
 use mathlib.Core.List.{List, [], ◌∷◌, ◌++◌}
 use Prim.Native.Nat.{ℕ}
 use Prim.Native.String.{String}
 use lib.IntN.{pos, negsuc}
-use Rattle.rows.specs.declared.Reported.{Reported}
-use Rattle.rows.specs.declared.Reported.TheVariants.{NotSet, Volume}
-use Rattle.figures.specs.declared.Price.{Price}
-use Rattle.figures.specs.declared.Price.TheVariants.{Absent, Of}
-use Rattle.show.specs.declared.Net.{Net}
-use Rattle.show.specs.declared.Net.TheVariants.{NoNet, Amount}
 use Rattle.show.specs.declared.RowShown.{RowShown}
 use Rattle.decimal.specs.Decimal.{digit_count, lowest, decimal}
 use Rattle.decimal.specs.Letters.{letters}
 use Rattle.decimal.specs.Amount.{amount_text}
 use Rattle.print.specs.Texts.{header_text, row_text, closing_text, stop_text}
 
-abbrev row_of : String → ℕ → Price → Price → Price → Net → ℕ → ℕ → Reported → RowShown
+abbrev row_of : String → ℕ → Option ℕ → Option ℕ → Option ℕ → Option ℤ → ℕ → ℕ → Option ℕ → RowShown
 row_of symbol close last high low net volume count reported =
     record {
       symbol = letters symbol;
@@ -35,7 +30,7 @@ row_of symbol close last high low net volume count reported =
 
 -- the texts of day W, of its row as typed by hand; the whole output, from the tape's bytes, is `w_whole` in trials
 pub w_printed : header_text ++
-    (row_text (row_of "ABCD    " 250000 (Of 252500) (Of 252500) (Of 252500) (Amount (pos 2500)) 170 2 (Volume 600)) ++ closing_text 6 7)
+    (row_text (row_of "ABCD    " 250000 (Some 252500) (Some 252500) (Some 252500) (Some (pos 2500)) 170 2 (Some 600)) ++ closing_text 6 7)
     ≡ letters "SYMBOL LAST HIGH LOW NET VOLUME TRADES CONSOL\nABCD 25.2500 25.2500 25.2500 +0.2500 170 2 600\nTAKEN 6 REFUSED 0 WANTED 7\n"
 unfolding header_text row_text closing_text amount_text decimal lowest digit_count
 w_printed = refl
@@ -45,17 +40,17 @@ w_printed = refl
 pub printed : List (List ℕ)
 printed =
     -- absent everything, as a row that was just listed
-    row_text (row_of "A       " 0 Absent Absent Absent NoNet 0 0 NotSet)
+    row_text (row_of "A       " 0 None None None None 0 0 None)
     -- a symbol that is a minus, the least price, the greatest price below one and one, net at zero, a reported volume of 0
-    ∷ row_text (row_of "-       " 1 (Of 1) (Of 10000) (Of 9999) (Amount (pos 0)) 7 1 (Volume 0))
+    ∷ row_text (row_of "-       " 1 (Some 1) (Some 10000) (Some 9999) (Some (pos 0)) 7 1 (Some 0))
     -- a symbol of eight letters, the greatest price, net at its two ends
-    ∷ row_text (row_of "ABCDEFGH" 1 (Of 2000000000) (Of 2000000000) (Of 1) (Amount (pos 1999999999)) 18446744073709551615 10 (Volume 100))
-    ∷ row_text (row_of "B+      " 2000000000 (Of 1) (Of 2000000000) (Of 1) (Amount (negsuc 1999999998)) 99 100 (Volume 1000000))
+    ∷ row_text (row_of "ABCDEFGH" 1 (Some 2000000000) (Some 2000000000) (Some 1) (Some (pos 1999999999)) 18446744073709551615 10 (Some 100))
+    ∷ row_text (row_of "B+      " 2000000000 (Some 1) (Some 2000000000) (Some 1) (Some (negsuc 1999999998)) 99 100 (Some 1000000))
     -- one ten-thousandth below and above
-    ∷ row_text (row_of "C.D     " 10001 (Of 10000) Absent Absent (Amount (negsuc 0)) 1 1 NotSet)
-    ∷ row_text (row_of "C.D     " 9999 (Of 10000) Absent Absent (Amount (pos 1)) 1 1 NotSet)
+    ∷ row_text (row_of "C.D     " 10001 (Some 10000) None None (Some (negsuc 0)) 1 1 None)
+    ∷ row_text (row_of "C.D     " 9999 (Some 10000) None None (Some (pos 1)) 1 1 None)
     -- a space within is kept
-    ∷ row_text (row_of "E F     " 0 (Of 100000) (Of 100000) (Of 99999) NoNet 20 2 (Volume 20))
+    ∷ row_text (row_of "E F     " 0 (Some 100000) (Some 100000) (Some 99999) None 20 2 (Some 20))
     ∷ closing_text 0 1
     ∷ closing_text 9 20
     ∷ closing_text 3 2

@@ -1,20 +1,16 @@
 -- What the struct types say of a row that is shown, and the longest lines that they allow.
 -- Assumes nothing.
-use Rattle.std.specs.Prelude.{ℕ, ◌^◌, ◌<◌, ◌≡◌, length}
-use Rattle.rows.specs.declared.Reported.{Reported}
-use Rattle.rows.specs.declared.Reported.TheVariants.{NotSet, Volume}
-use Rattle.figures.specs.declared.Price.{Price}
-use Rattle.figures.specs.declared.Price.TheVariants.{Absent, Of}
+use Rattle.std.specs.Prelude.{ℕ, ◌^◌, ◌<◌, ◌≡◌, length, None, Option, Some}
 use Rattle.show.specs.declared.RowShown.{RowShown}
 use Rattle.show.specs.Fits.{NetFits}
 
-abbrev pub PriceFits : Price → Type 0
-PriceFits Absent = Unit
-PriceFits (Of p) = p < 2 ^ 32
+abbrev pub PriceFits : Option ℕ → Type 0
+PriceFits None = Unit
+PriceFits (Some p) = p < 2 ^ 32
 
-abbrev pub ReportedFits : Reported → Type 0
-ReportedFits NotSet = Unit
-ReportedFits (Volume v) = v < 2 ^ 64
+abbrev pub ReportedFits : Option ℕ → Type 0
+ReportedFits None = Unit
+ReportedFits (Some v) = v < 2 ^ 64
 
 -- each text has its length, and each number its width
 pub record RowFits (w : RowShown) : Type 0 where

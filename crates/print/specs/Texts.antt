@@ -1,16 +1,10 @@
 -- The lines of the printed wall as bytes: 32 is the space, 10 ends a line.
 -- Assumes nothing.
-use Rattle.std.specs.Prelude.{ℕ, ◌-◌, ◌≡◌, List, [], ◌∷◌, ◌++◌, true, cond, eqb}
+use Rattle.std.specs.Prelude.{ℕ, ◌-◌, ◌≡◌, List, [], ◌∷◌, ◌++◌, true, cond, eqb, None, Option, Some, ℤ}
 use Rattle.octets.specs.Run.{all}
 use Rattle.decimal.specs.Letters.{letters}
 use Rattle.decimal.specs.Decimal.{decimal}
 use Rattle.decimal.specs.Amount.{amount_text, signed_text}
-use Rattle.rows.specs.declared.Reported.{Reported}
-use Rattle.rows.specs.declared.Reported.TheVariants.{NotSet, Volume}
-use Rattle.figures.specs.declared.Price.{Price}
-use Rattle.figures.specs.declared.Price.TheVariants.{Absent, Of}
-use Rattle.show.specs.declared.Net.{Net}
-use Rattle.show.specs.declared.Net.TheVariants.{NoNet, Amount}
 use Rattle.show.specs.declared.RowShown.{RowShown}
 
 -- ---- figures
@@ -18,20 +12,20 @@ use Rattle.show.specs.declared.RowShown.{RowShown}
 abbrev pub absent_text : List ℕ
 absent_text = letters "-"
 
-abbrev pub price_text : Price → List ℕ
-price_text Absent = absent_text
-price_text (Of p) = amount_text p
+abbrev pub price_text : Option ℕ → List ℕ
+price_text None = absent_text
+price_text (Some p) = amount_text p
 
-abbrev pub net_text : Net → List ℕ
-net_text NoNet = absent_text
-net_text (Amount z) = signed_text z
+abbrev pub net_text : Option ℤ → List ℕ
+net_text None = absent_text
+net_text (Some z) = signed_text z
 
 abbrev pub count_text : ℕ → List ℕ
 count_text n = decimal n
 
-abbrev pub reported_text : Reported → List ℕ
-reported_text NotSet = absent_text
-reported_text (Volume v) = count_text v
+abbrev pub reported_text : Option ℕ → List ℕ
+reported_text None = absent_text
+reported_text (Some v) = count_text v
 
 -- ---- a symbol without the spaces at its end
 

@@ -4,10 +4,7 @@ ghost use Rattle.decimal.specs.Decimal.{decimal};
 ghost use Rattle.print.specs.Texts.{absent_text, price_text, net_text, count_text, reported_text};
 ghost use Rattle.print.specs.Put.{Put};
 
-use figures::Price;
 use octets::run::paste;
-use rows::Reported;
-use show::Net;
 use single::put_byte;
 
 // A count behind its name.
@@ -29,13 +26,13 @@ fn put_absent(out: &mut [u8], at: usize) -> usize
     at + 2
 }
 
-fn put_price(out: &mut [u8], at: usize, p: Price) -> usize
+fn put_price(out: &mut [u8], at: usize, p: Option<u32>) -> usize
     requires { at ≤ 800 }
     ensures { Put 40 out.old at (32 ∷ price_text p) out.new result }
 {
     match p {
-        Price::Absent => put_absent(out, at),
-        Price::Of(x) => {
+        None => put_absent(out, at),
+        Some(x) => {
             put_byte(out, at, b' ');
             at + 1 + decimal::put_amount(out, at + 1, x as u64)
         }
@@ -43,7 +40,7 @@ fn put_price(out: &mut [u8], at: usize, p: Price) -> usize
 }
 
 // Last, high and low.
-pub(crate) fn put_prices(out: &mut [u8], at: usize, last: Price, high: Price, low: Price) -> usize
+pub(crate) fn put_prices(out: &mut [u8], at: usize, last: Option<u32>, high: Option<u32>, low: Option<u32>) -> usize
     requires { at ≤ 500 }
     ensures { Put 120 out.old at
         ((32 ∷ price_text last) ++ ((32 ∷ price_text high) ++ (32 ∷ price_text low))) out.new result }
@@ -53,26 +50,26 @@ pub(crate) fn put_prices(out: &mut [u8], at: usize, last: Price, high: Price, lo
     put_price(out, b, low)
 }
 
-pub(crate) fn put_net(out: &mut [u8], at: usize, n: Net) -> usize
+pub(crate) fn put_net(out: &mut [u8], at: usize, n: Option<i64>) -> usize
     requires { at ≤ 800 }
     ensures { Put 40 out.old at (32 ∷ net_text n) out.new result }
 {
     match n {
-        Net::NoNet => put_absent(out, at),
-        Net::Amount(x) => {
+        None => put_absent(out, at),
+        Some(x) => {
             put_byte(out, at, b' ');
             at + 1 + decimal::put_signed(out, at + 1, x)
         }
     }
 }
 
-fn put_reported(out: &mut [u8], at: usize, r: Reported) -> usize
+fn put_reported(out: &mut [u8], at: usize, r: Option<u64>) -> usize
     requires { at ≤ 800 }
     ensures { Put 40 out.old at (32 ∷ reported_text r) out.new result }
 {
     match r {
-        Reported::NotSet => put_absent(out, at),
-        Reported::Volume(x) => put_named(out, at, b" ", x),
+        None => put_absent(out, at),
+        Some(x) => put_named(out, at, b" ", x),
     }
 }
 
@@ -82,7 +79,7 @@ pub(crate) fn put_counts(
     at: usize,
     volume: u64,
     count: u64,
-    reported: Reported,
+    reported: Option<u64>,
 ) -> usize
     requires { at ≤ 500 }
     ensures { Put 120 out.old at

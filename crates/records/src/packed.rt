@@ -4,10 +4,7 @@ ghost use Rattle.std.proofs.lemmas.List.Edits.{sets};
 ghost use Rattle.records.specs.Fits.{RecordFits};
 ghost use Rattle.records.specs.Packed as W;
 
-use crate::{
-    CENTRE, CLASS, CLOSE, CONDITION, CONSOLIDATED, EVENT, HIGH, LETTER, LOW, NEW_SALE, OLD_SALE,
-    PRICE, RECORD, Record, SIZE, SYMBOL, Sale, TIME,
-};
+use crate::{CENTRE, CLASS, CLOSE, CONDITION, CONSOLIDATED, EVENT, HIGH, LETTER, LOW, NEW_SALE, OLD_SALE, PRICE, RECORD, Record, SIZE, SYMBOL, Sale, TIME};
 use numbers::{number4, number8, put4, put8};
 use octets::run::{fill, paste};
 use single::{byte, put_byte};

@@ -1,5 +1,6 @@
 -- Rows in lent bytes: what a row's cell holds, one row more, a row changed, and which bytes stay.
 -- Assumes nothing.
+use Rattle.std.specs.Prelude.{Option, Some, ℕ}
 use Prim.Native.Nat.{ℕ, suc, ◌+◌, ◌*◌, ◌^◌, ◌≤◌, ◌<◌, min}
 use mathlib.Core.Path.{◌≡◌, refl, ap, ◌∙◌}
 use mathlib.Core.List.{List, [], ◌∷◌, ◌++◌, append_assoc}
@@ -12,10 +13,7 @@ use Rattle.numbers.proofs.Laws.{digits_length}
 use Rattle.octets.proofs.Trips as trips
 use Rattle.rows.specs.declared.Listing.{Listing}
 use Rattle.rows.specs.declared.Row.{Row}
-use Rattle.rows.specs.declared.Summary.{Summary}
-use Rattle.rows.specs.declared.Summary.TheVariants.{HighLow}
-use Rattle.rows.specs.declared.Reported.{Reported}
-use Rattle.rows.specs.declared.Reported.TheVariants.{Volume}
+use Rattle.rows.specs.Rows.{high_low}
 use Rattle.cells.specs.Search.{first}
 use Rattle.rows.specs.Cell.{row_cell, at_close, at_summary, at_high, at_low, at_reported, at_volume}
 use Rattle.rows.specs.Rows.{listing_from, summary_at, reported_at, row_from, new_row, report_bytes, summary_bytes, row_at, row_limit, used_rows}
@@ -23,6 +21,7 @@ use Rattle.rows.specs.Rows.{no_row, row_in, in_row, with_row, with_report, with_
 use Rattle.rows.specs.Changed.{listed_row, reporting, summarised, ListingFits}
 use Rattle.cells.proofs.Slabs.{Agree, Kept, number_here, number_past, part_agree, stored_found, stored_kept, stored_length, stored_past}
 use Rattle.cells.proofs.Slabs.{used, used_add, used_in_lem, used_length, used_set}
+use Rattle.rows.specs.declared.HighLow.{HighLow}
 
 -- ---- a row's cell
 
@@ -43,7 +42,7 @@ module _ (m w : List ℕ) (at : ℕ) where
       rw (h (at + at_reported) (omega arith) (omega arith), volume)
 
   -- a row whose symbol and close are as before
-  row_as : (s : Summary) (r : Reported) → Agree m w at (at + at_summary) → summary_at w at ≡ s → reported_at w at ≡ r
+  row_as : (s : Option HighLow) (r : Option ℕ) → Agree m w at (at + at_summary) → summary_at w at ≡ s → reported_at w at ≡ r
       → row_from w at ≡ record { listing = (row_from m at).listing; summary = s; reported = r }
   unfolding row_from listing_from
   row_as s r h es er =
@@ -84,7 +83,7 @@ unfolding new_row
 new_row_length l h = simp length-append (omega (arith, digits_length 4 l.close))
 
 -- a stored volume is read as it was
-report_back : (w rest : List ℕ) (at v : ℕ) → v < 2 ^ 64 → drop (at + at_reported) w ≡ report_bytes v ++ rest → reported_at w at ≡ Volume v
+report_back : (w rest : List ℕ) (at v : ℕ) → v < 2 ^ 64 → drop (at + at_reported) w ≡ report_bytes v ++ rest → reported_at w at ≡ Some v
 unfolding reported_at report_bytes
 report_back w rest at v h d =
     let d1 : drop (at + at_volume) w ≡ digits 8 v ++ rest
@@ -99,7 +98,7 @@ report_length v = ap suc (digits_length 8 v)
 
 -- a stored high and low are read as they were
 summary_back : (w rest : List ℕ) (at h l : ℕ) → h < 2 ^ 32 → l < 2 ^ 32 → drop (at + at_summary) w ≡ summary_bytes h l ++ rest
-    → summary_at w at ≡ HighLow h l
+    → summary_at w at ≡ Some (high_low h l)
 unfolding summary_at summary_bytes
 summary_back w rest at h l hh hl d =
     let r2 = digits 4 l ++ rest in
@@ -194,9 +193,9 @@ rows_report m n k v hv h =
     let d = in_found m k at_reported bytes fits (omega arith) in
     let same : summary_at w at ≡ summary_at m at
     = summary_agree m w at (in_before m k at_reported bytes fits (at + at_summary) (at + at_reported) (omega arith)) in
-    let new : reported_at w at ≡ Volume v = report_back w (drop (at + at_reported + length bytes) m) at v hv d in
+    let new : reported_at w at ≡ Some v = report_back w (drop (at + at_reported + length bytes) m) at v hv d in
     in_set m k at_reported bytes fits n (reporting v) h
-    (row_as m w at (summary_at m at) (Volume v) (in_before m k at_reported bytes fits at (at + at_summary) (omega arith)) same new)
+    (row_as m w at (summary_at m at) (Some v) (in_before m k at_reported bytes fits at (at + at_summary) (omega arith)) same new)
 
 -- a used row's J taken
 pub rows_summary : (m : List ℕ) (n k h l : ℕ) → h < 2 ^ 32 → l < 2 ^ 32 → k < min n (row_limit (length m))
@@ -209,8 +208,8 @@ rows_summary m n k h l hh hl g =
     let e : length bytes ≡ 9 = summary_length h l in
     let fits : at_summary + length bytes ≤ row_cell = omega arith in
     let d = in_found m k at_summary bytes fits (omega arith) in
-    let new : summary_at w at ≡ HighLow h l = summary_back w (drop (at + at_summary + length bytes) m) at h l hh hl d in
+    let new : summary_at w at ≡ Some (high_low h l) = summary_back w (drop (at + at_summary + length bytes) m) at h l hh hl d in
     let same : reported_at w at ≡ reported_at m at
     = reported_agree m w at (in_after m k at_summary bytes fits (at + at_reported) (at + row_cell) (omega arith)) in
     in_set m k at_summary bytes fits n (summarised h l) g
-    (row_as m w at (HighLow h l) (reported_at m at) (in_before m k at_summary bytes fits at (at + at_summary) (omega arith)) new same)
+    (row_as m w at (Some (high_low h l)) (reported_at m at) (in_before m k at_summary bytes fits at (at + at_summary) (omega arith)) new same)

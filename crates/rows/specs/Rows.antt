@@ -1,29 +1,30 @@
 -- Rows in lent bytes: a cell for each listed symbol, one behind the other, numbers big-endian. It keeps the listing, what the latest J
 -- said and the volume that was reported last. Whatever stands in a cell is a row.
 -- Assumes nothing.
-use Rattle.std.specs.Prelude.{ℕ, ◌+◌, ◌-◌, ◌*◌, ◌/◌, min, List, ◌∷◌, ◌++◌, map, Bool, cond, length, get_or, replicate, eqb, ltb}
+use Rattle.std.specs.Prelude.{ℕ, ◌+◌, ◌-◌, ◌*◌, ◌/◌, min, List, ◌∷◌, ◌++◌, map, Bool, cond, length, get_or, replicate, eqb, ltb, None, Option, Some}
 use Rattle.std.proofs.lemmas.List.Edits.{sets}
 use Rattle.octets.specs.Run.{tab, part, same}
 use Rattle.numbers.specs.Number.{be, digits}
 use Rattle.rows.specs.Cell.{row_cell, row_cap, at_close, at_summary, at_high, at_low, at_reported, at_volume}
 use Rattle.rows.specs.declared.Listing.{Listing}
 use Rattle.rows.specs.declared.Row.{Row}
-use Rattle.rows.specs.declared.Summary.{Summary}
-use Rattle.rows.specs.declared.Summary.TheVariants.{NoSummary, HighLow}
-use Rattle.rows.specs.declared.Reported.{Reported}
-use Rattle.rows.specs.declared.Reported.TheVariants.{NotSet, Volume}
-use Rattle.cells.specs.declared.Found.{Found}
 use Rattle.cells.specs.Search.{first}
+use Rattle.rows.specs.declared.HighLow.{HighLow}
 
 -- ---- a cell
 
+-- a high and a low
+abbrev pub high_low : ℕ → ℕ → HighLow
+high_low high low = record { high = high; low = low }
+
 -- a J mark other than taken, which is 1, is absent
-unfoldable pub summary_at : List ℕ → ℕ → Summary
-summary_at m at = cond (eqb (get_or m (at + at_summary) 0) 1) (HighLow (be (part m (at + at_high) 4)) (be (part m (at + at_low) 4))) NoSummary
+unfoldable pub summary_at : List ℕ → ℕ → Option HighLow
+summary_at m at =
+    cond (eqb (get_or m (at + at_summary) 0) 1) (Some (high_low (be (part m (at + at_high) 4)) (be (part m (at + at_low) 4)))) None
 
 -- a reported mark other than set, which is 1, is absent
-unfoldable pub reported_at : List ℕ → ℕ → Reported
-reported_at m at = cond (eqb (get_or m (at + at_reported) 0) 1) (Volume (be (part m (at + at_volume) 8))) NotSet
+unfoldable pub reported_at : List ℕ → ℕ → Option ℕ
+reported_at m at = cond (eqb (get_or m (at + at_reported) 0) 1) (Some (be (part m (at + at_volume) 8))) None
 
 unfoldable pub listing_from : List ℕ → ℕ → Listing
 listing_from m at = record { symbol = part m at 8; close = be (part m (at + at_close) 4) }
@@ -68,14 +69,14 @@ abbrev pub is_of : List ℕ → Listing → Bool
 is_of symbol l = same l.symbol symbol
 
 -- the first listing of a symbol on a sheet
-abbrev pub listing_of : List ℕ → List Listing → Found
+abbrev pub listing_of : List ℕ → List Listing → Option ℕ
 listing_of symbol sheet = first (is_of symbol) sheet 0
 
 -- ---- a row of the room
 
 -- what is read where the room has no such row
 abbrev pub no_row : Row
-no_row = record { listing = record { symbol = replicate 8 0; close = 0 }; summary = NoSummary; reported = NotSet }
+no_row = record { listing = record { symbol = replicate 8 0; close = 0 }; summary = None; reported = None }
 
 -- row i of the room
 unfoldable pub row_in : List ℕ → ℕ → Row

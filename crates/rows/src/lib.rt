@@ -11,7 +11,6 @@ ghost use Rattle.rows.specs.Rows.{row_limit, used_sheet, listing_of, row_in};
 ghost use Rattle.rows.specs.Rows.{with_row, with_report, with_summary};
 
 use bounds::lesser;
-use cells::Found;
 
 // What is listed: a symbol and its adjusted previous close. A close of 0 is unknown.
 #[derive(Clone, Copy)]
@@ -20,26 +19,20 @@ pub struct Listing {
     pub close: u32,
 }
 
-// What the latest J that was taken says: its high and its low.
+// A high and a low.
 #[derive(Clone, Copy)]
-pub enum Summary {
-    NoSummary,
-    HighLow(u32, u32),
+pub struct HighLow {
+    pub high: u32,
+    pub low: u32,
 }
 
-// The consolidated volume that was reported last.
-#[derive(Clone, Copy)]
-pub enum Reported {
-    NotSet,
-    Volume(u64),
-}
-
-// A listing, and what messages of its symbol left in its row.
+// A listing, and what messages of its symbol left in its row: what the latest J that was taken says, and the
+// consolidated volume that was reported last.
 #[derive(Clone, Copy)]
 pub struct Row {
     pub listing: Listing,
-    pub summary: Summary,
-    pub reported: Reported,
+    pub summary: Option<HighLow>,
+    pub reported: Option<u64>,
 }
 
 // At most this many rows, however long the room.
@@ -76,7 +69,7 @@ fn name_at(rows: &[u8], at: usize) -> u64
 }
 
 // Which used row is the first of the symbol. The eight bytes of a symbol are compared as one number.
-pub fn find(rows: &[u8], used: usize, symbol: [u8; 8]) -> Found
+pub fn find(rows: &[u8], used: usize, symbol: [u8; 8]) -> Option<usize>
     ensures { result ≡ listing_of symbol (used_sheet rows.now used) }
 {
     let n = lesser(used, limit(rows.len()));
@@ -84,35 +77,35 @@ pub fn find(rows: &[u8], used: usize, symbol: [u8; 8]) -> Found
     let mut i: usize = 0;
     while i < n {
         if name_at(rows, i * CELL) == name {
-            return Found::At(i);
+            return Some(i);
         }
         i += 1;
     }
-    Found::Nothing
+    None
 }
 
-fn summary_at(rows: &[u8], at: usize) -> Summary
+fn summary_at(rows: &[u8], at: usize) -> Option<HighLow>
     requires { at + row_cell ≤ length rows.now }
     ensures { result ≡ summary_at rows.now at }
 {
     let high = numbers::number4(rows, at + HIGH);
     let low = numbers::number4(rows, at + LOW);
     if single::byte(rows, at + SUMMARY) == 1 {
-        Summary::HighLow(high, low)
+        Some(HighLow { high, low })
     } else {
-        Summary::NoSummary
+        None
     }
 }
 
-fn reported_at(rows: &[u8], at: usize) -> Reported
+fn reported_at(rows: &[u8], at: usize) -> Option<u64>
     requires { at + row_cell ≤ length rows.now }
     ensures { result ≡ reported_at rows.now at }
 {
     let volume = numbers::number8(rows, at + VOLUME);
     if single::byte(rows, at + REPORTED) == 1 {
-        Reported::Volume(volume)
+        Some(volume)
     } else {
-        Reported::NotSet
+        None
     }
 }
 
@@ -149,8 +142,8 @@ fn no_row() -> Row
             symbol: [0u8; 8],
             close: 0,
         },
-        summary: Summary::NoSummary,
-        reported: Reported::NotSet,
+        summary: None,
+        reported: None,
     }
 }
 

@@ -1,5 +1,6 @@
 -- The difference of two prices, each of 32 bits, is exact in 64 signed bits.
 -- Assumes nothing.
+use Rattle.std.specs.Prelude.{Some}
 use Prim.Native.Nat.{ℕ, zero, suc, ◌<◌, ◌^◌, ◌-◌}
 use mathlib.Core.Path.{◌≡◌, refl, ap, ◌∙◌, subst⁻¹}
 use mathlib.Core.Bool.{Bool, true, false, cond}
@@ -10,8 +11,6 @@ use lib.Signed.{mag}
 use mir.Syntax.{w64}
 use mir.Val.{SFits, to_z}
 use mir.Facts.{to_z_pos}
-use Rattle.figures.specs.declared.Price.TheVariants.{Of}
-use Rattle.show.specs.declared.Net.TheVariants.{Amount}
 use Rattle.show.specs.Showing.{net_of}
 
 size_of : (t : Bool) (x y n : ℕ) → x < n → y < n → mag (cond t (negsuc x) (pos y)) < n
@@ -33,6 +32,6 @@ pub net_fits : (p q : ℕ) → p < 2 ^ 32 → q < 2 ^ 32 → SFits w64 (to_z w64
 net_fits p q hp hq = subst⁻¹ (λ (z : ℤ). SFits w64 z) (net_is p q hp hq) (record { sfits = below p q hp hq })
 
 -- at both ends and at zero
-pub net_ends : (net_of (Of 1) 2000000000 ≡ Amount (negsuc 1999999998)) × (net_of (Of 2000000000) 1 ≡ Amount (pos 1999999999))
-    × (net_of (Of 2000000000) 2000000000 ≡ Amount (pos 0))
+pub net_ends : (net_of (Some 1) 2000000000 ≡ Some (negsuc 1999999998)) × (net_of (Some 2000000000) 1 ≡ Some (pos 1999999999))
+    × (net_of (Some 2000000000) 2000000000 ≡ Some (pos 0))
 net_ends = (refl, refl, refl)

@@ -1,38 +1,31 @@
 -- What a row reads: what is kept in it, and the figures of its symbol's live lines.
 -- Assumes nothing.
-use Rattle.std.specs.Prelude.{ℕ, Bool, false, cond, ◌&&◌, eqb, pos, ◌-ℤ◌, replicate}
+use Rattle.std.specs.Prelude.{ℕ, Bool, false, cond, ◌&&◌, eqb, pos, ◌-ℤ◌, replicate, None, Option, Some, ℤ}
 use Rattle.rows.specs.declared.Row.{Row}
-use Rattle.rows.specs.declared.Summary.{Summary}
-use Rattle.rows.specs.declared.Summary.TheVariants.{NoSummary, HighLow}
-use Rattle.rows.specs.declared.Reported.TheVariants.{NotSet}
-use Rattle.figures.specs.declared.Price.{Price}
-use Rattle.figures.specs.declared.Price.TheVariants.{Absent, Of}
-use Rattle.figures.specs.declared.Last.{Last}
-use Rattle.figures.specs.declared.Last.TheVariants.{NoLast, Trade}
 use Rattle.figures.specs.declared.Figures.{Figures}
-use Rattle.show.specs.declared.Net.{Net}
-use Rattle.show.specs.declared.Net.TheVariants.{NoNet, Amount}
 use Rattle.show.specs.declared.RowShown.{RowShown}
+use Rattle.figures.specs.declared.LastTrade.{LastTrade}
+use Rattle.rows.specs.declared.HighLow.{HighLow}
 
 -- last is the price of the newest trade that may be the last
-abbrev pub last_of : Last → Price
-last_of NoLast = Absent
-last_of (Trade place price) = Of price
+abbrev pub last_of : Option LastTrade → Option ℕ
+last_of None = None
+last_of (Some last) = Some last.price
 
 -- net change is last minus close; absent if there is no last or the close is 0
-abbrev pub net_of : Price → ℕ → Net
-net_of Absent close = NoNet
-net_of (Of last) close = cond (eqb close 0) NoNet (Amount (pos last -ℤ pos close))
+abbrev pub net_of : Option ℕ → ℕ → Option ℤ
+net_of None close = None
+net_of (Some last) close = cond (eqb close 0) None (Some (pos last -ℤ pos close))
 
 -- an absent figure counts as 0
-abbrev pub or_zero : Price → ℕ
-or_zero Absent = 0
-or_zero (Of p) = p
+abbrev pub or_zero : Option ℕ → ℕ
+or_zero None = 0
+or_zero (Some p) = p
 
 -- the row agrees if a J was taken and its high and low equal the row's
-abbrev pub agrees_with : Summary → Price → Price → Bool
-agrees_with NoSummary high low = false
-agrees_with (HighLow h l) high low = eqb h (or_zero high) && eqb l (or_zero low)
+abbrev pub agrees_with : Option HighLow → Option ℕ → Option ℕ → Bool
+agrees_with None high low = false
+agrees_with (Some said) high low = eqb said.high (or_zero high) && eqb said.low (or_zero low)
 
 unfoldable pub shown_of : Row → Figures → RowShown
 shown_of r f =
@@ -55,12 +48,12 @@ nothing_shown =
     record {
       symbol = replicate 8 0;
       close = 0;
-      last = Absent;
-      high = Absent;
-      low = Absent;
-      net = NoNet;
+      last = None;
+      high = None;
+      low = None;
+      net = None;
       volume = 0;
       count = 0;
       agrees = false;
-      reported = NotSet;
+      reported = None;
     }

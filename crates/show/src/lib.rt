@@ -4,97 +4,62 @@
 ghost use Rattle.std.specs.Prelude.{◌≡◌};
 ghost use Rattle.show.specs.Showing as Showing;
 
-use figures::{Figures, Last, Price};
-use rows::{Reported, Row, Summary};
+use figures::{Figures, LastTrade};
+use rows::{HighLow, Row};
 
-// Last less close, where both are known.
-#[derive(Clone, Copy)]
-pub enum Net {
-    NoNet,
-    Amount(i64),
-}
-
+// What a reader is shown of a row. `net` is last less close, where both are known.
 #[derive(Clone, Copy)]
 pub struct RowShown {
     pub symbol: [u8; 8],
     pub close: u32,
-    pub last: Price,
-    pub high: Price,
-    pub low: Price,
-    pub net: Net,
+    pub last: Option<u32>,
+    pub high: Option<u32>,
+    pub low: Option<u32>,
+    pub net: Option<i64>,
     pub volume: u64,
     pub count: u64,
     pub agrees: bool,
-    pub reported: Reported,
+    pub reported: Option<u64>,
 }
 
-fn last_of(l: Last) -> Price
+fn last_of(l: Option<LastTrade>) -> Option<u32>
     ensures { result ≡ Showing.last_of l }
 {
-    match l {
-        Last::NoLast => Price::Absent,
-        Last::Trade(place, price) => Price::Of(price),
-    }
+    l.map(|last| last.price)
 }
 
-fn net_of(last: Price, close: u32) -> Net
+fn net_of(last: Option<u32>, close: u32) -> Option<i64>
     ensures { result ≡ Showing.net_of last close }
 {
-    match last {
-        Price::Absent => Net::NoNet,
-        Price::Of(p) => {
-            if close == 0 {
-                Net::NoNet
-            } else {
-                Net::Amount((p as i64) - (close as i64))
-            }
-        }
+    if close == 0 {
+        return None;
     }
+    last.map(|price| i64::from(price) - i64::from(close))
 }
 
-// An absent figure counts as 0.
-fn or_zero(p: Price) -> u32
-    ensures { result ≡ Showing.or_zero p }
-{
-    match p {
-        Price::Absent => 0,
-        Price::Of(x) => x,
-    }
-}
-
-// Whether a J was taken and says the row's high and low.
-fn agrees_with(s: Summary, high: Price, low: Price) -> bool
+// Whether a J was taken and says the row's high and low; an absent figure counts as 0.
+fn agrees_with(s: Option<HighLow>, high: Option<u32>, low: Option<u32>) -> bool
     ensures { result ≡ Showing.agrees_with s high low }
 {
-    match s {
-        Summary::NoSummary => false,
-        Summary::HighLow(h, l) => (h == or_zero(high)) & (l == or_zero(low)),
-    }
+    s.is_some_and(|said| (said.high == high.unwrap_or(0)) & (said.low == low.unwrap_or(0)))
 }
 
 // The row as a reader sees it: what the row keeps, the figures, and what follows from both.
 pub fn shown(r: Row, f: Figures) -> RowShown
     ensures { result ≡ Showing.shown_of r f }
 {
-    let newest = f.last;
-    let last = last_of(newest);
-    let high = f.high;
-    let low = f.low;
-    let summary = r.summary;
-    let reported = r.reported;
-    let listing = r.listing;
-    let symbol = listing.symbol;
+    let last = last_of(f.last);
     RowShown {
-        symbol: symbol,
-        close: listing.close,
-        last: last,
-        high: high,
-        low: low,
-        net: net_of(last, listing.close),
+        symbol: r.listing.symbol,
+        close: r.listing.close,
+        last,
+        high: f.high,
+        low: f.low,
+        net: net_of(last, r.listing.close),
         volume: f.volume,
         count: f.count,
-        agrees: agrees_with(summary, high, low),
-        reported: reported,
+        agrees: agrees_with(r.summary, f.high, f.low),
+        reported: r.reported,
     }
 }
 
@@ -105,13 +70,13 @@ pub fn nothing() -> RowShown
     RowShown {
         symbol: [0u8; 8],
         close: 0,
-        last: Price::Absent,
-        high: Price::Absent,
-        low: Price::Absent,
-        net: Net::NoNet,
+        last: None,
+        high: None,
+        low: None,
+        net: None,
         volume: 0,
         count: 0,
         agrees: false,
-        reported: Reported::NotSet,
+        reported: None,
     }
 }

@@ -14,7 +14,7 @@ use Rattle.keys.specs.Keys as Keys
 use Rattle.cells.specs.Search as Search
 use Rattle.records.specs.declared.Sale.{Sale}
 use Rattle.records.specs.declared.Record.{Record}
-use Rattle.message.specs.declared.Reading.{Reading}
+use Rattle.message.specs.Reader.{Reading}
 use Rattle.lines.specs.declared.Line.{Line}
 use Rattle.table.specs.Table.{Basis, searched, number_table, content_table}
 

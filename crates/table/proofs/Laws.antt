@@ -1,5 +1,6 @@
 -- Laws that the functions of this crate stand on: the line that a search found, and the one that is made.
 -- Assumes nothing.
+use Rattle.std.specs.Prelude.{None, Option, Some, ℕ}
 use mathlib.Core.Path.{◌≡◌, ap, sym, ◌∙◌}
 use mathlib.Core.Bool.{Bool, true, false, cond}
 use mathlib.Core.List.{List}
@@ -8,15 +9,12 @@ use native.Mathlib.Omega.{arith}
 use borrow.Author.Tests.{eq-eqb, ne_eqb}
 use lib.Dec.{leb}
 use lib.ListN.{length, get_or}
-use Rattle.answers.specs.Answers.{number_of, answer_of}
-use Rattle.answers.specs.declared.Answer.{Answer}
+use Rattle.answers.specs.Answers.{Answer, number_of, answer_of}
 use Rattle.kinds.specs.declared.Kind.{Kind}
 use Rattle.kinds.specs.Kinds.{is_event, makes_new}
 use Rattle.phases.specs.Phases.{due}
 use Rattle.records.specs.declared.Record.{Record}
 use Rattle.lines.specs.declared.Line.{Line}
-use Rattle.cells.specs.declared.Found.{Found}
-use Rattle.cells.specs.declared.Found.TheVariants.{Nothing, At}
 use Rattle.lines.specs.Lines.{used_lines, line_limit, line_with, bears, line_in, no_line}
 use Rattle.cells.proofs.Slabs.{found_below}
 use Rattle.lines.proofs.Slabs.{used_lines_length, line_in_lem}
@@ -27,12 +25,12 @@ use Rattle.table.specs.declared.Verdict.{Verdict}
 use Rattle.table.proofs.Tables.{lines_full}
 
 -- a search for a key that was worked out
-pub found_for : (ls : List Line) (key key' : List ℕ) (f f' : Found) → f ≡ line_with key ls → key ≡ key' → f ≡ f' → line_with key' ls ≡ f'
+pub found_for : (ls : List Line) (key key' : List ℕ) (f f' : Option ℕ) → f ≡ line_with key ls → key ≡ key' → f ≡ f' → line_with key' ls ≡ f'
 found_for ls key key' f f' e k g = ap (λ (x : List ℕ). line_with x ls) (sym k) ∙ sym e ∙ g
 
 -- ---- the line that is named
 
-module _ (r : Record) (m : List ℕ) (used i : ℕ) (e : line_with (old_key r) (used_lines m used) ≡ At i) where
+module _ (r : Record) (m : List ℕ) (used i : ℕ) (e : line_with (old_key r) (used_lines m used) ≡ Some i) where
   there : get_or (used_lines m used) i no_line ≡ line_in m i
   there = line_in_lem m used i (omega (arith, found_below (bears (old_key r)) (used_lines m used) i e, used_lines_length m used))
 
@@ -48,12 +46,12 @@ module _ (r : Record) (m : List ℕ) (used i : ℕ) (e : line_with (old_key r) (
 -- ---- the line that is made
 
 module _ (kind : Kind) (r : Record) (m : List ℕ) (used : ℕ) (n : makes_new kind ≡ true) where
-  pub made_none : line_with (new_key kind r) (used_lines m used) ≡ Nothing → (b : Bool) → leb (line_limit (length m)) used ≡ b
+  pub made_none : line_with (new_key kind r) (used_lines m used) ≡ None → (b : Bool) → leb (line_limit (length m)) used ≡ b
       → answer_of (cond b 12 0) ≡ answer_of (made_by (ledger_in m used) kind r)
   unfolding made_by
   made_none e b f = rw (e, n, lines_full m used, f)
 
-  pub made_found : (i : ℕ) → line_with (new_key kind r) (used_lines m used) ≡ At i → answer_of 11 ≡ answer_of (made_by (ledger_in m used) kind r)
+  pub made_found : (i : ℕ) → line_with (new_key kind r) (used_lines m used) ≡ Some i → answer_of 11 ≡ answer_of (made_by (ledger_in m used) kind r)
   unfolding made_by
   made_found i e = rw (e, n)
 

@@ -1,5 +1,6 @@
 -- The way the program works the answer table gives what the table gives; the number before the content.
 -- Assumes nothing.
+use Rattle.std.specs.Prelude.{None, Option, Some, ℕ}
 use Prim.Native.Nat.{ℕ, ◌≤◌, min}
 use mathlib.Core.Path.{◌≡◌, refl, ap, sym, ◌∙◌}
 use mathlib.Core.Logic.{◌↔◌, ◌⊎◌, inl, inr, ⊎_elim}
@@ -14,12 +15,9 @@ use Rattle.answers.specs.Cases.{Case, says, spends, given, in_book}
 use Rattle.answers.proofs.Cases.{Rising}
 use Rattle.answers.proofs.Promise.{one_number_each}
 use Rattle.editions.specs.declared.Edition.{Edition}
-use Rattle.message.specs.Reader.{read_of}
+use Rattle.message.specs.Reader.{Reading, read_of}
 use Rattle.records.specs.declared.Record.{Record}
-use Rattle.message.specs.declared.Reading.{Reading}
 use Rattle.message.proofs.Said.{Said, unshaped, unkept, obeyed, said}
-use Rattle.cells.specs.declared.Found.{Found}
-use Rattle.cells.specs.declared.Found.TheVariants.{Nothing, At}
 use Rattle.kinds.specs.declared.Kind.{Kind}
 use Rattle.kinds.specs.Kinds.{is_event, names_old, makes_new}
 use Rattle.kinds.proofs.Laws.{event_names, event_makes, names_event}
@@ -97,12 +95,12 @@ module _ (l : Ledger) (kind : Kind) (r : Record) where
   unfolding made_by made_table
   made_is = go (makes_new kind) (leb l.limit (length l.lines)) (l.search (new_key kind r))
     where
-      go : (t full : Bool) (f : Found) → cond t (made_at full f) 0 ≡ (given (spends 11 (t && is_found f) ∷ spends 12 (t && full) ∷ [])).number
-      go false full Nothing = refl
-      go false full (At i) = refl
-      go true true Nothing = refl
-      go true false Nothing = refl
-      go true full (At i) = refl
+      go : (t full : Bool) (f : Option ℕ) → cond t (made_at full f) 0 ≡ (given (spends 11 (t && is_found f) ∷ spends 12 (t && full) ∷ [])).number
+      go false full None = refl
+      go false full (Some i) = refl
+      go true true None = refl
+      go true false None = refl
+      go true full (Some i) = refl
 
   trade_is : (trade_by l kind r).answer ≡ answer_of (given (trade_table l kind r)).number
   unfolding trade_by named_by trade_table
@@ -111,14 +109,14 @@ module _ (l : Ledger) (kind : Kind) (r : Record) where
       made : answer_of (made_by l kind r) ≡ answer_of (given (made_table l kind r)).number
       made = ap answer_of made_is
 
-      go : (t : Bool) (f : Found)
+      go : (t : Bool) (f : Option ℕ)
           → (cond t (then_made l kind r (named_at r l.lines f)) (plainly (answer_of (made_by l kind r)))).answer
           ≡ answer_of (given (spends 8 (t && not (is_found f)) ∷ spends 9 (t && dead_at l.lines f) ∷ spends 10
           (t && differs_at r l.lines f) ∷ made_table l kind r)).number
-      go false Nothing = made
-      go false (At i) = made
-      go true Nothing = refl
-      go true (At i) = at (get_or l.lines i no_line).live (matches r (get_or l.lines i no_line))
+      go false None = made
+      go false (Some i) = made
+      go true None = refl
+      go true (Some i) = at (get_or l.lines i no_line).live (matches r (get_or l.lines i no_line))
         where
           at : (live agrees : Bool)
               → (then_made l kind r (cond live (cond agrees (naming i) (plainly (answer_of 10))) (plainly (answer_of 9)))).answer
@@ -129,19 +127,19 @@ module _ (l : Ledger) (kind : Kind) (r : Record) where
           at false false = refl
 
   -- not refused, and naming a line: it was found
-  named_at_lem : number_of (trade_by l kind r).answer ≡ 0 → names_old kind ≡ true → l.search (old_key r) ≡ At (trade_by l kind r).line
+  named_at_lem : number_of (trade_by l kind r).answer ≡ 0 → names_old kind ≡ true → l.search (old_key r) ≡ Some (trade_by l kind r).line
   unfolding trade_by named_by
   named_at_lem z n = rw n (go (l.search (old_key r)) refl (rw n at z))
     where
-      go : (f : Found) → l.search (old_key r) ≡ f → number_of (then_made l kind r (named_at r l.lines f)).answer ≡ 0
-          → l.search (old_key r) ≡ At (then_made l kind r (named_at r l.lines f)).line
-      go Nothing f z = absurd (omega arith)
-      go (At i) f z = at (get_or l.lines i no_line).live (matches r (get_or l.lines i no_line)) z
+      go : (f : Option ℕ) → l.search (old_key r) ≡ f → number_of (then_made l kind r (named_at r l.lines f)).answer ≡ 0
+          → l.search (old_key r) ≡ Some (then_made l kind r (named_at r l.lines f)).line
+      go None f z = absurd (omega arith)
+      go (Some i) f z = at (get_or l.lines i no_line).live (matches r (get_or l.lines i no_line)) z
         where
           named : Bool → Bool → Verdict
           named live agrees = then_made l kind r (cond live (cond agrees (naming i) (plainly (answer_of 10))) (plainly (answer_of 9)))
 
-          at : (live agrees : Bool) → number_of (named live agrees).answer ≡ 0 → l.search (old_key r) ≡ At (named live agrees).line
+          at : (live agrees : Bool) → number_of (named live agrees).answer ≡ 0 → l.search (old_key r) ≡ Some (named live agrees).line
           at true true z = f
           at true false z = absurd (omega arith)
           at false agrees z = absurd (omega arith)
@@ -163,28 +161,28 @@ module _ (b : Basis) (kind : Kind) (r : Record) where
   unfolding due_by listed_by due_table
   due_is = go (due b.phase kind r.event) (is_event kind) refl (listing_of r.symbol b.sheet)
     where
-      go : (d e : Bool) → is_event kind ≡ e → (f : Found)
+      go : (d e : Bool) → is_event kind ≡ e → (f : Option ℕ)
           → (cond d (cond e (plainly (answer_of 0)) (listed_at b.ledger kind r f)) (plainly (answer_of 6))).answer
           ≡ answer_of (given (spends 6 (not d) ∷ spends 7 (not e && not (is_found f)) ∷ trade_table b.ledger kind r)).number
       go true true q f = ap answer_of (sym (event_quiet b.ledger kind r q))
-      go true false q Nothing = refl
-      go true false q (At i) = trade_is b.ledger kind r
+      go true false q None = refl
+      go true false q (Some i) = trade_is b.ledger kind r
       go false e q f = refl
 
   -- not refused, and no event: the symbol has a row, and the rest was judged there
   due_at : number_of (due_by b kind r).answer ≡ 0 → is_event kind ≡ false
-      → (i : ℕ) × (listing_of r.symbol b.sheet ≡ At i) × (due_by b kind r ≡ on_row i (trade_by b.ledger kind r))
+      → (i : ℕ) × (listing_of r.symbol b.sheet ≡ Some i) × (due_by b kind r ≡ on_row i (trade_by b.ledger kind r))
   unfolding due_by listed_by
   due_at z e = go (due b.phase kind r.event) (is_event kind) e (listing_of r.symbol b.sheet) refl z
     where
-      picked : Bool → Bool → Found → Verdict
+      picked : Bool → Bool → Option ℕ → Verdict
       picked d u f = cond d (cond u (plainly (answer_of 0)) (listed_at b.ledger kind r f)) (plainly (answer_of 6))
 
-      go : (d u : Bool) → u ≡ false → (f : Found) → listing_of r.symbol b.sheet ≡ f → number_of (picked d u f).answer ≡ 0
-          → (i : ℕ) × (listing_of r.symbol b.sheet ≡ At i) × (picked d u f ≡ on_row i (trade_by b.ledger kind r))
+      go : (d u : Bool) → u ≡ false → (f : Option ℕ) → listing_of r.symbol b.sheet ≡ f → number_of (picked d u f).answer ≡ 0
+          → (i : ℕ) × (listing_of r.symbol b.sheet ≡ Some i) × (picked d u f ≡ on_row i (trade_by b.ledger kind r))
       go true true e f g z = absurd (true≢false e)
-      go true false e Nothing g z = absurd (omega arith)
-      go true false e (At i) g z = (i, g, refl)
+      go true false e None g z = absurd (omega arith)
+      go true false e (Some i) g z = (i, g, refl)
       go false u e f g z = absurd (omega arith)
 
 module _ (b : Basis) (q : Reading) where
@@ -216,24 +214,24 @@ module _ (b : Basis) (q : Reading) where
       go false t z = absurd (eqb-false (number_of q.answer) 0 t z)
 
   judged_on : number_of it.answer ≡ 0 → is_event kind ≡ false
-      → (i : ℕ) × (listing_of q.found.symbol b.sheet ≡ At i) × (it ≡ on_row i (trade_by b.ledger kind q.found))
+      → (i : ℕ) × (listing_of q.found.symbol b.sheet ≡ Some i) × (it ≡ on_row i (trade_by b.ledger kind q.found))
   judged_on z e =
       let j = judged_at z in
       let d = due_at b kind q.found (rw j at z) e in
       (d.0, d.1, j ∙ d.2)
 
   -- the row that a taken message goes to, if it is no event, is the first of its symbol
-  pub judged_row : number_of it.answer ≡ 0 → is_event kind ≡ false → listing_of q.found.symbol b.sheet ≡ At it.row
+  pub judged_row : number_of it.answer ≡ 0 → is_event kind ≡ false → listing_of q.found.symbol b.sheet ≡ Some it.row
   judged_row z e =
       let d = judged_on z e in
-      d.1 ∙ ap (λ (v : Verdict). At v.row) (sym d.2)
+      d.1 ∙ ap (λ (v : Verdict). Some v.row) (sym d.2)
 
   -- the line that a taken message names is the one that the search for its key finds
-  pub judged_line : number_of it.answer ≡ 0 → names_old kind ≡ true → b.ledger.search (old_key q.found) ≡ At it.line
+  pub judged_line : number_of it.answer ≡ 0 → names_old kind ≡ true → b.ledger.search (old_key q.found) ≡ Some it.line
   judged_line z n =
       let d = judged_on z (names_event kind n) in
       let t : number_of (trade_by b.ledger kind q.found).answer ≡ 0 = rw d.2 at z in
-      named_at_lem b.ledger kind q.found t n ∙ ap (λ (v : Verdict). At v.line) (sym d.2)
+      named_at_lem b.ledger kind q.found t n ∙ ap (λ (v : Verdict). Some v.line) (sym d.2)
 
 -- ---- the number before the content
 

@@ -2,13 +2,11 @@
 -- lines so far and the room, so that whoever knows these can work them. 17 goes before them (`in_book`); 18 is the writer's. 6 to 12 ask
 -- what was read, which under 4 and 5 is a record of zeros, and then 4 or 5 is given anyway.
 -- Assumes nothing.
-use Rattle.std.specs.Prelude.{ℕ, List, [], ◌∷◌, Bool, true, false, not, ◌&&◌, ◌||◌, eqb, ltb, leb, length, get_or}
+use Rattle.std.specs.Prelude.{ℕ, List, [], ◌∷◌, Bool, true, false, not, ◌&&◌, ◌||◌, eqb, ltb, leb, length, get_or, None, Option, Some}
 use Rattle.answers.specs.Answers.{number_of}
 use Rattle.answers.specs.Cases.{Case, says, spends}
 use Rattle.records.specs.declared.Record.{Record}
-use Rattle.message.specs.declared.Reading.{Reading}
-use Rattle.cells.specs.declared.Found.{Found}
-use Rattle.cells.specs.declared.Found.TheVariants.{Nothing, At}
+use Rattle.message.specs.Reader.{Reading}
 use Rattle.kinds.specs.Kinds.{is_event, names_old, makes_new}
 use Rattle.lines.specs.declared.Line.{Line}
 use Rattle.lines.specs.Lines.{line_limit, used_lines, line_with, no_line}
@@ -24,7 +22,7 @@ use Rattle.keys.specs.Keys.{kind_in, old_key, new_key, matches}
 pub record Ledger : Type 0 where
   pub lines : List Line
   pub limit : ℕ
-  pub search : List ℕ → Found
+  pub search : List ℕ → Option ℕ
 
 -- the phase, the sheet of the day, the trades so far
 pub record Basis : Type 0 where
@@ -45,19 +43,19 @@ basis_in phase rows listed lines used = record { phase = phase; sheet = used_she
 
 -- ---- what is asked of lines and listings
 
-abbrev pub is_found : Found → Bool
-is_found Nothing = false
-is_found (At i) = true
+abbrev pub is_found : Option ℕ → Bool
+is_found None = false
+is_found (Some i) = true
 
 -- the line that was found is there and is dead
-abbrev pub dead_at : List Line → Found → Bool
-dead_at ls Nothing = false
-dead_at ls (At i) = not (get_or ls i no_line).live
+abbrev pub dead_at : List Line → Option ℕ → Bool
+dead_at ls None = false
+dead_at ls (Some i) = not (get_or ls i no_line).live
 
 -- it is there and is another trade than the one named
-abbrev pub differs_at : Record → List Line → Found → Bool
-differs_at r ls Nothing = false
-differs_at r ls (At i) = not (matches r (get_or ls i no_line))
+abbrev pub differs_at : Record → List Line → Option ℕ → Bool
+differs_at r ls None = false
+differs_at r ls (Some i) = not (matches r (get_or ls i no_line))
 
 -- a listing of the symbol is on the sheet
 abbrev pub is_listed : List ℕ → List Listing → Bool

@@ -1,13 +1,10 @@
 -- How the program works the table: branch by branch, each test once, keeping what acting on it needs.
 -- `proofs/Tables` shows that this is the table.
 -- Assumes nothing.
-use Rattle.std.specs.Prelude.{ℕ, List, Bool, cond, eqb, leb, length, get_or}
-use Rattle.answers.specs.Answers.{number_of, answer_of}
-use Rattle.answers.specs.declared.Answer.{Answer}
+use Rattle.std.specs.Prelude.{ℕ, List, Bool, cond, eqb, leb, length, get_or, None, Option, Some}
+use Rattle.answers.specs.Answers.{Answer, number_of, answer_of}
 use Rattle.records.specs.declared.Record.{Record}
-use Rattle.message.specs.declared.Reading.{Reading}
-use Rattle.cells.specs.declared.Found.{Found}
-use Rattle.cells.specs.declared.Found.TheVariants.{Nothing, At}
+use Rattle.message.specs.Reader.{Reading}
 use Rattle.kinds.specs.declared.Kind.{Kind}
 use Rattle.kinds.specs.Kinds.{is_event, names_old, makes_new}
 use Rattle.lines.specs.declared.Line.{Line}
@@ -28,9 +25,9 @@ naming i = record { answer = answer_of 0; row = 0; line = i }
 
 -- ---- 8, 9, 10, or the line that is named
 
-abbrev pub named_at : Record → List Line → Found → Verdict
-named_at r ls Nothing = plainly (answer_of 8)
-named_at r ls (At i) =
+abbrev pub named_at : Record → List Line → Option ℕ → Verdict
+named_at r ls None = plainly (answer_of 8)
+named_at r ls (Some i) =
     cond (get_or ls i no_line).live (cond (matches r (get_or ls i no_line)) (naming i) (plainly (answer_of 10))) (plainly (answer_of 9))
 
 unfoldable pub named_by : Ledger → Record → Verdict
@@ -38,9 +35,9 @@ named_by l r = named_at r l.lines (l.search (old_key r))
 
 -- ---- 11, 12 or 0
 
-abbrev pub made_at : Bool → Found → ℕ
-made_at full Nothing = cond full 12 0
-made_at full (At i) = 11
+abbrev pub made_at : Bool → Option ℕ → ℕ
+made_at full None = cond full 12 0
+made_at full (Some i) = 11
 
 unfoldable pub made_by : Ledger → Kind → Record → ℕ
 made_by l kind r = cond (makes_new kind) (made_at (leb l.limit (length l.lines)) (l.search (new_key kind r))) 0
@@ -59,9 +56,9 @@ trade_by l kind r = cond (names_old kind) (then_made l kind r (named_by l r)) (p
 abbrev pub on_row : ℕ → Verdict → Verdict
 on_row i v = record { answer = v.answer; row = i; line = v.line }
 
-abbrev pub listed_at : Ledger → Kind → Record → Found → Verdict
-listed_at l kind r Nothing = plainly (answer_of 7)
-listed_at l kind r (At i) = on_row i (trade_by l kind r)
+abbrev pub listed_at : Ledger → Kind → Record → Option ℕ → Verdict
+listed_at l kind r None = plainly (answer_of 7)
+listed_at l kind r (Some i) = on_row i (trade_by l kind r)
 
 unfoldable pub listed_by : List Listing → Ledger → Kind → Record → Verdict
 listed_by sheet l kind r = listed_at l kind r (listing_of r.symbol sheet)

@@ -9,7 +9,6 @@ ghost use Rattle.table.specs.Table.{number_table, ledger_in, basis_in};
 ghost use Rattle.table.specs.Working as Working;
 
 use answers::Answer;
-use cells::Found;
 use counters::LAST_NUMBER;
 use keys::{is_match, new_key, old_key};
 use kinds::{Kind, is_event, makes_new, names_old};
@@ -57,8 +56,8 @@ fn judge_named(lines: &[u8], used: usize, r: Record) -> Verdict
     ensures { result ≡ Working.named_by (ledger_in lines.now used) r }
 {
     match lines::find(lines, used, old_key(r)) {
-        Found::Nothing => plainly(Answer::NoLine),
-        Found::At(i) => {
+        None => plainly(Answer::NoLine),
+        Some(i) => {
             let l = lines::get(lines, i);
             if l.live {
                 if is_match(r, l) {
@@ -83,14 +82,14 @@ fn judge_made(lines: &[u8], used: usize, kind: Kind, r: Record) -> Answer
 {
     if makes_new(kind) {
         match lines::find(lines, used, new_key(kind, r)) {
-            Found::Nothing => {
+            None => {
                 if lines::limit(lines.len()) <= used {
                     Answer::LinesFull
                 } else {
                     Answer::Done
                 }
             }
-            Found::At(i) => Answer::KeyUsed,
+            Some(i) => Answer::KeyUsed,
         }
     } else {
         Answer::Done
@@ -130,8 +129,8 @@ fn judge_listed(
 {
     let symbol = r.symbol;
     match rows::find(rows, listed, symbol) {
-        Found::Nothing => plainly(Answer::NotListed),
-        Found::At(i) => {
+        None => plainly(Answer::NotListed),
+        Some(i) => {
             let traded = judge_trade(lines, used, kind, r);
             let a = traded.answer;
             Verdict {

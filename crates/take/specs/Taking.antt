@@ -1,9 +1,7 @@
 -- What a message does to each lent byte when it is taken.
 -- Assumes nothing.
-use Rattle.std.specs.Prelude.{ℕ, List, true, cond}
+use Rattle.std.specs.Prelude.{ℕ, List, true, cond, None, Option, Some}
 use Rattle.records.specs.declared.Record.{Record}
-use Rattle.cells.specs.declared.Found.{Found}
-use Rattle.cells.specs.declared.Found.TheVariants.{Nothing, At}
 use Rattle.lines.specs.declared.Line.{Line}
 use Rattle.lines.specs.Lines.{line_in, with_line, with_dead}
 use Rattle.rows.specs.Rows.{with_report, with_summary}
@@ -81,6 +79,6 @@ unfoldable pub rows_by : Edition → Kind → List ℕ → Record → ℕ → Li
 rows_by e kind m r i = cond (reports e) (reported_by kind m r i) m
 
 -- the number of the cell where a search ended; 0 where nothing was found, which no taken message asks for
-abbrev pub index_of : Found → ℕ
-index_of Nothing = 0
-index_of (At i) = i
+abbrev pub index_of : Option ℕ → ℕ
+index_of None = 0
+index_of (Some i) = i

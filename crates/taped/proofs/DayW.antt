@@ -1,6 +1,7 @@
 -- The tape of the day W played: six messages taken, the seventh wanted, every byte used; and the row of ABCD then. And what the calls of
 -- any such day name: a cancel and a correction, so that what is said of the keys that a day names is not said of none.
 -- Assumes nothing.
+use Rattle.std.specs.Prelude.{Some}
 use mathlib.Core.Path.{◌≡◌, refl, sym, ap, ◌∙◌}
 use mathlib.Core.List.{List, [], ◌∷◌, reverse, reverse-reverse}
 use Prim.Native.Nat.{ℕ}
@@ -8,7 +9,6 @@ use native.Mathlib.Omega.{arith}
 use lib.IntN.{pos}
 use lib.ListN.{length}
 use Rattle.answers.specs.Answers.{answer_of}
-use Rattle.show.specs.declared.Net.TheVariants.{Amount}
 use Rattle.book.specs.Calls.{shown}
 use Rattle.tape.specs.declared.Stop.TheVariants.{Ended}
 use Rattle.editions.specs.declared.Edition.TheVariants.{NlsPlus}
@@ -29,7 +29,7 @@ w_played = (refl, refl, refl, refl, refl)
 
 -- the row that document 01 prints of the day
 pub w_shown : shown play_w.state abcd
-    ≡ record { answer = answer_of 0; row = priced 250000 252500 252500 252500 (Amount (pos 2500)) 170 2 600 }
+    ≡ record { answer = answer_of 0; row = priced 250000 252500 252500 252500 (Some (pos 2500)) 170 2 600 }
 unfolding play_w figures_for
 w_shown = refl
 

@@ -1,6 +1,7 @@
 -- One true day through the tape: listings, and copies of one day's messages in any order and with any gaps. What is printed is what the
 -- clerk shows of the messages 1 to n, n the largest count that the tape brings in order.
 -- Assumes nothing.
+use Rattle.std.specs.Prelude.{Option, ℕ}
 use Prim.Native.Nat.{ℕ, suc, ◌≤◌}
 use mathlib.Core.Path.{◌≡◌, refl, ap, ap₂, sym, subst, ◌∙◌}
 use mathlib.Core.List.{List, [], ◌∷◌, ◌++◌, map}
@@ -25,7 +26,6 @@ use Rattle.upheld.proofs.Touches.{touches_only}
 use Rattle.tape.specs.Entries.{Entry, Lists, Delivers, entry_bytes, EntryFits, EntriesFit, tape_of, Tape, end_of}
 use Rattle.tape.specs.Playing.{acted, acted_all, Play, played, joined}
 use Rattle.tape.proofs.Tapes.{play_split, bytes_behind, bytes_take}
-use Rattle.page.specs.declared.Ending.{Ending}
 use Rattle.page.specs.Page.{row_lines, end_lines, ending_at, wall_lines, wall_of, wall_after, wall_text}
 use Rattle.clerk.specs.States.{asked_all, arrivals_in, listings_in, AskedFit}
 use Rattle.clerk.specs.Steps.{Book, book_of}
@@ -84,7 +84,7 @@ module _ (R L : ℕ) (sheet : List Listing) (room : ℕ) (ms : List (List ℕ)) 
   unfolding book_of clerk_book book_by
   counts_are = ap (λ (b : Book). closing_text b.taken b.wanted) h.reads
 
-  pub wall_is : (e : Ending) → wall_of s e ≡ clerk_wall sheet room ms e
+  pub wall_is : (e : Option ℕ) → wall_of s e ≡ clerk_wall sheet room ms e
   unfolding wall_of wall_lines clerk_wall
   wall_is e =
       ap joined

@@ -1,5 +1,6 @@
 -- The printed wall is the one said: a row for each listing taken, in listing order, each as `row` shows it.
 -- Assumes nothing.
+use Rattle.std.specs.Prelude.{None, Option, Some, ℕ}
 use Prim.Native.Nat.{ℕ, zero, suc, ◌+◌, ◌<◌, min}
 use mathlib.Core.Path.{◌≡◌, refl, ap, ap₂, sym, subst, ◌∙◌}
 use mathlib.Core.Bool.{Bool, true, false, cond, not}
@@ -17,8 +18,6 @@ use Rattle.message.specs.Reader.{read_of}
 use Rattle.records.specs.declared.Record.{Record}
 use Rattle.kinds.specs.declared.Kind.{Kind}
 use Rattle.kinds.specs.Kinds.{is_summary, sets_volume}
-use Rattle.cells.specs.declared.Found.{Found}
-use Rattle.cells.specs.declared.Found.TheVariants.{Nothing, At}
 use Rattle.rows.specs.declared.Listing.{Listing}
 use Rattle.rows.specs.declared.Row.{Row}
 use Rattle.rows.specs.Rows.{row_limit, used_rows, sheet_in, no_row, is_of, listing_of, row_in}
@@ -49,7 +48,6 @@ use Rattle.clerk.proofs.Lines.{or_false_left, or_false_right, first_hit, first_m
 use Rattle.tape.specs.Entries.{Entry, Lists, Delivers, EntriesFit, tape_of, Tape, end_of}
 use Rattle.tape.specs.Playing.{acted, acted_all, Play, played, joined}
 use Rattle.tape.proofs.Tapes.{play_split, bytes_behind}
-use Rattle.page.specs.declared.Ending.{Ending}
 use Rattle.page.specs.Page.{shown_row, row_lines, end_lines, ending_at, wall_lines, wall_of, wall_after, wall_text}
 use Rattle.clerk.specs.States.{AskedFit}
 use Rattle.taped.specs.ClerksWall.{asked_in}
@@ -59,10 +57,10 @@ use Rattle.taped.specs.Said.{taken_here, listings_taken, wall_said}
 -- ---- what an entry does to the sheet
 
 -- a message changes the listing of no row
-rows_kept : (change : Row → Row) → ((w : Row) → (change w).listing ≡ w.listing) → (rs : List Row) (f : Found)
+rows_kept : (change : Row → Row) → ((w : Row) → (change w).listing ≡ w.listing) → (rs : List Row) (f : Option ℕ)
     → sheet_in (change_found change rs f) ≡ sheet_in rs
-rows_kept change h rs Nothing = refl
-rows_kept change h rs (At i) = map-set_same (λ (w : Row). w.listing) rs i (change (get_or rs i no_row)) no_row (h (get_or rs i no_row))
+rows_kept change h rs None = refl
+rows_kept change h rs (Some i) = map-set_same (λ (w : Row). w.listing) rs i (change (get_or rs i no_row)) no_row (h (get_or rs i no_row))
 
 for_kept : (ed : Edition) (kind : Kind) (r : Record) (rs : List Row) → sheet_in (rows_for ed kind r rs) ≡ sheet_in rs
 unfolding rows_for
@@ -208,7 +206,7 @@ other_row x (w ∷ ws) h zero l = or_false_left (same w.listing.symbol x) _ h
 other_row x (w ∷ ws) h (suc j) l = other_row x ws (or_false_right (same w.listing.symbol x) _ h) j (omega arith)
 
 own_row : (ws : List Row) → NoRepeat (symbols_in (sheet_in ws)) → (i : ℕ) → i < length ws
-    → listing_of (get_or ws i no_row).listing.symbol (sheet_in ws) ≡ At i
+    → listing_of (get_or ws i no_row).listing.symbol (sheet_in ws) ≡ Some i
 own_row [] d i l = absurd (omega arith)
 own_row (w ∷ ws) d zero l = first_hit (is_of w.listing.symbol) w.listing (sheet_in ws) (same_refl w.listing.symbol)
 own_row (w ∷ ws) d (suc i) l =
@@ -222,11 +220,11 @@ same_at f g [] h = refl
 same_at f g (w ∷ ws) h = ap₂ {C = List (List ℕ)} (λ x xs. x ∷ xs) (h 0 (omega arith)) (same_at f g ws (λ i l. h (suc i) (omega arith)))
 
 module _ (s : State) (h : Steady s) where
-  row_answered : (symbol : List ℕ) (i : ℕ) → listing_of symbol (sheet_of s) ≡ At i → row_answer s symbol ≡ 0
+  row_answered : (symbol : List ℕ) (i : ℕ) → listing_of symbol (sheet_of s) ≡ Some i → row_answer s symbol ≡ 0
   unfolding row_answer
   row_answered symbol i found =
       ap (λ (t : Bool). (given (in_book t (row_table (sheet_of s) symbol))).number) h.safe
-      ∙ ap (λ (f : Found). (given (says 7 (not (is_found f)) ∷ [])).number) found
+      ∙ ap (λ (f : Option ℕ). (given (says 7 (not (is_found f)) ∷ [])).number) found
 
   shown_at : (i : ℕ) → i < length (rows_in s)
       → (shown s (get_or (rows_in s) i no_row).listing.symbol).row ≡ shown_row s (get_or (rows_in s) i no_row)
@@ -234,9 +232,9 @@ module _ (s : State) (h : Steady s) where
   shown_at i l =
       let w = get_or (rows_in s) i no_row in
       let symbol = w.listing.symbol in
-      let found : listing_of symbol (sheet_of s) ≡ At i = own_row (rows_in s) h.once i l in
+      let found : listing_of symbol (sheet_of s) ≡ Some i = own_row (rows_in s) h.once i l in
       let m : i < min s.counters.rows (row_limit (length s.rows)) = omega (arith, used_rows_length s.rows s.counters.rows) in
-      let row : Found → RowShown = λ f. shown_of (row_in s.rows (index_of f)) (figures_of symbol (lines_in s)) in
+      let row : Option ℕ → RowShown = λ f. shown_of (row_in s.rows (index_of f)) (figures_of symbol (lines_in s)) in
       ap (λ (n : ℕ). cond (eqb n 0) (row (listing_of symbol (sheet_of s))) nothing_shown) (row_answered symbol i found)
       ∙ ap row found
       ∙ ap (λ (x : Row). shown_of x (figures_of symbol (lines_in s))) (sym (row_in_lem s.rows s.counters.rows i m))

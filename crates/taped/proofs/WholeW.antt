@@ -1,6 +1,7 @@
 -- The whole output of day W: the three lines that document 01 prints, byte for byte, in the program's room, whatever that held before; and
 -- of its tape with a byte more and with a byte less.
 -- Assumes nothing.
+use Rattle.std.specs.Prelude.{None, Option, Some, ℕ}
 use Prim.Native.Nat.{ℕ, zero, suc, ◌^◌, ◌≤◌, ◌<◌}
 use mathlib.Core.Path.{◌≡◌, refl, ap, ap₂, sym, subst, ◌∙◌}
 use mathlib.Core.Bool.{Bool, true, ◌&&◌, cond, and-eq-true_iff}
@@ -18,8 +19,6 @@ use Rattle.tape.specs.declared.entries.Head.TheVariants.{Whole, Stops}
 use Rattle.tape.specs.Entries.{EntriesFit, body_length, tape_of}
 use Rattle.tape.specs.declared.Stop.TheVariants.{NoKind, CutShort}
 use Rattle.tape.proofs.Tapes.{whole_tape, cut_tape}
-use Rattle.page.specs.declared.Ending.{Ending}
-use Rattle.page.specs.declared.Ending.TheVariants.{Complete, StopsAt}
 use Rattle.feed.specs.Reading.{Standing}
 use Rattle.feed.proofs.Through.{ReadSo}
 use Rattle.page.specs.Page.{ending_at, wall_text}
@@ -99,15 +98,15 @@ unfolding rest_cut
 cut_is = refl
 
 -- what the clerk prints
-w_clerks : wall_w 6 Complete ≡ printed_w
+w_clerks : wall_w 6 None ≡ printed_w
 unfolding wall_w
 w_clerks = refl
 
-stops_clerks : wall_w 6 (StopsAt 296) ≡ stopped_w
+stops_clerks : wall_w 6 (Some 296) ≡ stopped_w
 unfolding wall_w
 stops_clerks = refl
 
-cut_clerks : wall_w 5 (StopsAt 224) ≡ cut_w
+cut_clerks : wall_w 5 (Some 224) ≡ cut_w
 unfolding wall_w
 cut_clerks = refl
 
@@ -118,7 +117,7 @@ w_short = lit< tt
 -- the program's room, whatever it held before
 module _ (rooms : State) (bl : Bytes rooms.lines) (rowsLong : length rooms.rows ≡ 1920)
     (linesLong : length rooms.lines ≡ 40960) where
-  in_room : (n : ℕ) (e : Ending)
+  in_room : (n : ℕ) (e : Option ℕ)
       → clerk_wall (clerk_sheet (row_limit (length rooms.rows)) (alone 250000)) (line_limit (length rooms.lines)) (upto (day_of w) n) e
       ≡ wall_w n e
   unfolding wall_w
@@ -129,7 +128,7 @@ module _ (rooms : State) (bl : Bytes rooms.lines) (rowsLong : length rooms.rows 
   unfolding tape_w wall_w
   w_whole =
       tape_day (day_of w) 6 6 (lit≤ tt) rooms bl tape_w w_bytes entries_w [] (whole_tape entries_w w_fits) w_copies w_largest
-      ∙ in_room 6 Complete
+      ∙ in_room 6 None
       ∙ w_clerks
 
   -- and of its tape with a byte behind it that is no kind, whatever comes after that
@@ -149,7 +148,7 @@ module _ (rooms : State) (bl : Bytes rooms.lines) (rowsLong : length rooms.rows 
   w_cut =
       tape_day (day_of w) 6 5 (lit≤ tt) rooms bl (tape_of entries_cut ++ rest_cut) (small_bytes (tape_of entries_cut ++ rest_cut) refl) entries_cut
       rest_cut (cut_tape entries_cut rest_cut CutShort cut_fits refl) cut_copies (largest_got (numbers (arrivals_in (asked_in entries_cut))))
-      ∙ in_room 5 (StopsAt 224)
+      ∙ in_room 5 (Some 224)
       ∙ cut_clerks
 
   -- what the program's calls write of W's tape, however it is cut into pieces

@@ -1,6 +1,6 @@
 -- The tape of the day W, entry by entry, and its play on a fresh book in rooms for two rows and twelve lines.
 -- Assumes nothing.
-use Rattle.std.specs.Prelude.{ℕ, List, [], ◌∷◌, ◌++◌, take}
+use Rattle.std.specs.Prelude.{ℕ, List, [], ◌∷◌, ◌++◌, take, Option}
 use Rattle.editions.specs.declared.Edition.TheVariants.{NlsPlus}
 use Rattle.book.specs.State.{arrives}
 use Rattle.tape.specs.Entries as Entries
@@ -11,7 +11,6 @@ use Rattle.decimal.specs.Letters.{letters}
 use Rattle.decimal.specs.Decimal as Decimal
 use Rattle.decimal.specs.Amount as Amount
 use Rattle.print.specs.Texts as Texts
-use Rattle.page.specs.declared.Ending.{Ending}
 use Rattle.clerk.specs.Clerk.{clerk_sheet}
 use Rattle.clerk.specs.Arrivals.{upto}
 use Rattle.taped.specs.ClerksWall as ClerksWall
@@ -41,7 +40,7 @@ play_w = played (fresh_rooms NlsPlus) tape_w
 -- ---- the wall of W
 
 -- the wall that the clerk prints of its first n messages, in the program's room: 64 rows and 1,024 lines
-unfoldable pub wall_w : ℕ → Ending → List ℕ
+unfoldable pub wall_w : ℕ → Option ℕ → List ℕ
 unfolding clerk_shows ClerksWall.clerk_wall Texts.header_text Texts.row_text Texts.closing_text Texts.stop_text Amount.amount_text
     Decimal.digit_count Decimal.lowest Decimal.decimal
 wall_w n e = clerk_wall (clerk_sheet 64 (alone 250000)) 1024 (upto (day_of w) n) e

@@ -1,14 +1,13 @@
 -- The wall of any tape in document 01's words: the columns' names, a row for each listing taken, in listing order, the closing line, and
 -- where the tape stops.
 -- Assumes nothing.
-use Rattle.std.specs.Prelude.{ℕ, List, [], ◌∷◌, ◌++◌, map, cond, eqb}
+use Rattle.std.specs.Prelude.{ℕ, List, [], ◌∷◌, ◌++◌, map, cond, eqb, Option}
 use Rattle.rows.specs.declared.Listing.{Listing}
 use Rattle.print.specs.Texts.{header_text, row_text, closing_text}
 use Rattle.book.specs.State.{State}
 use Rattle.book.specs.Calls.{listed, shown}
 use Rattle.tape.specs.Entries.{Entry, Lists, Delivers}
 use Rattle.tape.specs.Playing.{acted, acted_all, joined}
-use Rattle.page.specs.declared.Ending.{Ending}
 use Rattle.page.specs.Page.{end_lines}
 
 -- the listing of an entry, if the book answers 0 to it
@@ -22,7 +21,7 @@ listings_taken s [] = []
 listings_taken s (e ∷ es) = taken_here s e ++ listings_taken (acted s e) es
 
 -- each row is what `row` shows of the symbol once the tape has ended
-unfoldable pub wall_said : State → List Entry → Ending → List ℕ
+unfoldable pub wall_said : State → List Entry → Option ℕ → List ℕ
 wall_said s es e =
     let end = acted_all s es in
     joined

@@ -3,16 +3,10 @@
 -- clerk's definitions, of as many messages as are used. The numbers are document 01's; the days without one tell apart what book and clerk
 -- share, where both could be wrong. All but the last part are of NLS Plus.
 -- Assumes nothing.
-use Rattle.std.specs.Prelude.{ℕ, zero, suc, ◌*◌, ◌-◌, ◌≡◌, List, [], ◌∷◌, ◌++◌, map, Bool, true, false, pos, negsuc, get_or, replicate, take}
+use Rattle.std.specs.Prelude.{ℕ, zero, suc, ◌*◌, ◌-◌, ◌≡◌, List, [], ◌∷◌, ◌++◌, map, Bool, true, false, pos, negsuc, get_or, replicate, take, None, Option, Some, ℤ}
 use Rattle.numbers.specs.Number.{digits}
 use Rattle.lines.specs.Lines.{line_limit}
 use Rattle.rows.specs.Rows.{row_limit}
-use Rattle.rows.specs.declared.Reported.{Reported}
-use Rattle.rows.specs.declared.Reported.TheVariants.{NotSet, Volume}
-use Rattle.figures.specs.declared.Price.{Price}
-use Rattle.figures.specs.declared.Price.TheVariants.{Absent, Of}
-use Rattle.show.specs.declared.Net.{Net}
-use Rattle.show.specs.declared.Net.TheVariants.{NoNet, Amount}
 use Rattle.show.specs.declared.RowShown.{RowShown}
 use Rattle.rows.specs.declared.Listing.{Listing}
 use Rattle.editions.specs.declared.Edition.{Edition}
@@ -179,7 +173,7 @@ abbrev pub day_of : List (List ℕ) → ℕ → List ℕ
 day_of ms k = get_or ms (k - 1) []
 
 -- close, last, high, low, net, volume, count, agrees, reported
-unfoldable pub figures_for : List ℕ → ℕ → Price → Price → Price → Net → ℕ → ℕ → Bool → Reported → RowShown
+unfoldable pub figures_for : List ℕ → ℕ → Option ℕ → Option ℕ → Option ℕ → Option ℤ → ℕ → ℕ → Bool → Option ℕ → RowShown
 figures_for symbol close last high low net volume count agrees reported =
     record {
       symbol = symbol;
@@ -195,16 +189,16 @@ figures_for symbol close last high low net volume count agrees reported =
     }
 
 -- a row of ABCD
-abbrev pub figures : ℕ → Price → Price → Price → Net → ℕ → ℕ → Bool → Reported → RowShown
+abbrev pub figures : ℕ → Option ℕ → Option ℕ → Option ℕ → Option ℤ → ℕ → ℕ → Bool → Option ℕ → RowShown
 figures close last high low net volume count agrees reported = figures_for abcd close last high low net volume count agrees reported
 
 -- one whose last, high and low are known and that no J was taken for
-abbrev pub priced : ℕ → ℕ → ℕ → ℕ → Net → ℕ → ℕ → ℕ → RowShown
-priced close last high low net volume count reported = figures close (Of last) (Of high) (Of low) net volume count false (Volume reported)
+abbrev pub priced : ℕ → ℕ → ℕ → ℕ → Option ℤ → ℕ → ℕ → ℕ → RowShown
+priced close last high low net volume count reported = figures close (Some last) (Some high) (Some low) net volume count false (Some reported)
 
 -- one with nothing reported
-abbrev pub silent : ℕ → ℕ → ℕ → ℕ → Net → ℕ → ℕ → RowShown
-silent close last high low net volume count = figures close (Of last) (Of high) (Of low) net volume count false NotSet
+abbrev pub silent : ℕ → ℕ → ℕ → ℕ → Option ℤ → ℕ → ℕ → RowShown
+silent close last high low net volume count = figures close (Some last) (Some high) (Some low) net volume count false None
 
 -- ---- worked from the book's promises
 
@@ -309,7 +303,7 @@ numbered =
       arrivals = 1 ∷ 2 ∷ 3 ∷ [];
       said = 0 ∷ 0 ∷ 0 ∷ [];
       used = 3;
-      shown = priced 250000 260000 260000 251000 (Amount (pos 10000)) 400 2 400 ∷ [];
+      shown = priced 250000 260000 260000 251000 (Some (pos 10000)) 400 2 400 ∷ [];
     }
     -- 2: W after 4
     ∷ record {
@@ -318,7 +312,7 @@ numbered =
       arrivals = 1 ∷ 2 ∷ 3 ∷ 4 ∷ [];
       said = 0 ∷ 0 ∷ 0 ∷ 0 ∷ [];
       used = 4;
-      shown = priced 250000 260000 260000 251000 (Amount (pos 10000)) 450 3 450 ∷ [];
+      shown = priced 250000 260000 260000 251000 (Some (pos 10000)) 450 3 450 ∷ [];
     }
     -- 3: W after 5
     ∷ record {
@@ -327,7 +321,7 @@ numbered =
       arrivals = 1 ∷ 2 ∷ 3 ∷ 4 ∷ 5 ∷ [];
       said = 0 ∷ 0 ∷ 0 ∷ 0 ∷ 0 ∷ [];
       used = 5;
-      shown = priced 250000 251000 251000 251000 (Amount (pos 1000)) 150 2 500 ∷ [];
+      shown = priced 250000 251000 251000 251000 (Some (pos 1000)) 150 2 500 ∷ [];
     }
     -- 4: W after 6
     ∷ record {
@@ -336,7 +330,7 @@ numbered =
       arrivals = 1 ∷ 2 ∷ 3 ∷ 4 ∷ 5 ∷ 6 ∷ [];
       said = 0 ∷ 0 ∷ 0 ∷ 0 ∷ 0 ∷ 0 ∷ [];
       used = 6;
-      shown = priced 250000 252500 252500 252500 (Amount (pos 2500)) 170 2 600 ∷ [];
+      shown = priced 250000 252500 252500 252500 (Some (pos 2500)) 170 2 600 ∷ [];
     }
     -- 5: a second X of Q 2
     ∷ record {
@@ -345,7 +339,7 @@ numbered =
       arrivals = 1 ∷ 2 ∷ 3 ∷ 4 ∷ 5 ∷ 6 ∷ 7 ∷ [];
       said = 0 ∷ 0 ∷ 0 ∷ 0 ∷ 0 ∷ 0 ∷ 9 ∷ [];
       used = 7;
-      shown = priced 250000 252500 252500 252500 (Amount (pos 2500)) 170 2 600 ∷ [];
+      shown = priced 250000 252500 252500 252500 (Some (pos 2500)) 170 2 600 ∷ [];
     }
     -- 6: X naming Q 2 with another size
     ∷ record {
@@ -354,7 +348,7 @@ numbered =
       arrivals = 1 ∷ 2 ∷ 3 ∷ 4 ∷ [];
       said = 0 ∷ 0 ∷ 0 ∷ 10 ∷ [];
       used = 4;
-      shown = priced 250000 260000 260000 251000 (Amount (pos 10000)) 400 2 400 ∷ [];
+      shown = priced 250000 260000 260000 251000 (Some (pos 10000)) 400 2 400 ∷ [];
     }
     -- 7: C whose new control is its own old one
     ∷ record {
@@ -363,7 +357,7 @@ numbered =
       arrivals = 1 ∷ 2 ∷ 3 ∷ [];
       said = 0 ∷ 0 ∷ 11 ∷ [];
       used = 3;
-      shown = priced 250000 251000 251000 251000 (Amount (pos 1000)) 100 1 100 ∷ [];
+      shown = priced 250000 251000 251000 251000 (Some (pos 1000)) 100 1 100 ∷ [];
     }
     -- 8: a number that comes too early, and again
     ∷ record {
@@ -372,7 +366,7 @@ numbered =
       arrivals = 1 ∷ 3 ∷ 2 ∷ 3 ∷ [];
       said = 0 ∷ 3 ∷ 0 ∷ 0 ∷ [];
       used = 3;
-      shown = priced 250000 260000 260000 251000 (Amount (pos 10000)) 400 2 400 ∷ [];
+      shown = priced 250000 260000 260000 251000 (Some (pos 10000)) 400 2 400 ∷ [];
     }
     -- 9: an empty message uses up its number
     ∷ record {
@@ -381,7 +375,7 @@ numbered =
       arrivals = 1 ∷ 2 ∷ 3 ∷ [];
       said = 0 ∷ 4 ∷ 0 ∷ [];
       used = 3;
-      shown = priced 250000 251000 251000 251000 (Amount (pos 1000)) 100 1 100 ∷ [];
+      shown = priced 250000 251000 251000 251000 (Some (pos 1000)) 100 1 100 ∷ [];
     }
     -- 10: the ends of a price
     ∷ record {
@@ -392,7 +386,7 @@ numbered =
       arrivals = 1 ∷ 2 ∷ 3 ∷ 4 ∷ [];
       said = 0 ∷ 0 ∷ 5 ∷ 5 ∷ [];
       used = 4;
-      shown = priced 250000 2000000000 2000000000 2000000000 (Amount (pos 1999750000)) 1 1 1 ∷ [];
+      shown = priced 250000 2000000000 2000000000 2000000000 (Some (pos 1999750000)) 1 1 1 ∷ [];
     }
     -- 13: number 0, and an event that comes too late
     ∷ record {
@@ -401,7 +395,7 @@ numbered =
       arrivals = 1 ∷ 0 ∷ 2 ∷ [];
       said = 0 ∷ 1 ∷ 6 ∷ [];
       used = 2;
-      shown = figures 250000 Absent Absent Absent NoNet 0 0 false NotSet ∷ [];
+      shown = figures 250000 None None None None 0 0 false None ∷ [];
     }
     ∷ []
 
@@ -417,7 +411,7 @@ marked =
       arrivals = 1 ∷ 2 ∷ 3 ∷ 4 ∷ 5 ∷ [];
       said = 0 ∷ 0 ∷ 0 ∷ 0 ∷ 0 ∷ [];
       used = 5;
-      shown = priced 250000 251000 270000 240000 (Amount (pos 1000)) 430 4 4 ∷ [];
+      shown = priced 250000 251000 270000 240000 (Some (pos 1000)) 430 4 4 ∷ [];
     }
     -- a trade with neither mark
     ∷ record {
@@ -426,7 +420,7 @@ marked =
       arrivals = 1 ∷ 2 ∷ [];
       said = 0 ∷ 0 ∷ [];
       used = 2;
-      shown = figures 250000 Absent Absent Absent NoNet 100 1 false (Volume 1) ∷ [];
+      shown = figures 250000 None None None None 100 1 false (Some 1) ∷ [];
     }
     -- a trade for each column of each level
     ∷ record {
@@ -440,7 +434,7 @@ marked =
       arrivals = 1 ∷ 2 ∷ 3 ∷ 4 ∷ 5 ∷ 6 ∷ 7 ∷ 8 ∷ 9 ∷ 10 ∷ [];
       said = 0 ∷ 0 ∷ 0 ∷ 0 ∷ 0 ∷ 0 ∷ 0 ∷ 0 ∷ 0 ∷ 0 ∷ [];
       used = 10;
-      shown = priced 1000 1200 4000 500 (Amount (pos 200)) 511 9 9 ∷ [];
+      shown = priced 1000 1200 4000 500 (Some (pos 200)) 511 9 9 ∷ [];
     }
     -- a chain of three corrections keeps the first trade's place
     ∷ record {
@@ -453,7 +447,7 @@ marked =
       arrivals = 1 ∷ 2 ∷ 3 ∷ 4 ∷ 5 ∷ 6 ∷ [];
       said = 0 ∷ 0 ∷ 0 ∷ 0 ∷ 0 ∷ 0 ∷ [];
       used = 6;
-      shown = priced 1000 2000 2000 1300 (Amount (pos 1000)) 33 2 5 ∷ [];
+      shown = priced 1000 2000 2000 1300 (Some (pos 1000)) 33 2 5 ∷ [];
     }
     -- a correction that changes the condition
     ∷ record {
@@ -464,7 +458,7 @@ marked =
       arrivals = 1 ∷ 2 ∷ 3 ∷ [];
       said = 0 ∷ 0 ∷ 0 ∷ [];
       used = 3;
-      shown = figures 1000 Absent Absent Absent NoNet 10 1 false (Volume 2) ∷ [];
+      shown = figures 1000 None None None None 10 1 false (Some 2) ∷ [];
     }
     ∷ []
 
@@ -478,7 +472,7 @@ summed =
       arrivals = 1 ∷ 2 ∷ 3 ∷ [];
       said = 0 ∷ 0 ∷ 0 ∷ [];
       used = 3;
-      shown = figures 250000 (Of 251000) (Of 251000) (Of 251000) (Amount (pos 1000)) 100 1 true (Volume 7) ∷ [];
+      shown = figures 250000 (Some 251000) (Some 251000) (Some 251000) (Some (pos 1000)) 100 1 true (Some 7) ∷ [];
     }
     -- a J whose low is another
     ∷ record {
@@ -489,7 +483,7 @@ summed =
       arrivals = 1 ∷ 2 ∷ 3 ∷ [];
       said = 0 ∷ 0 ∷ 0 ∷ [];
       used = 3;
-      shown = figures 250000 (Of 251000) (Of 251000) (Of 251000) (Amount (pos 1000)) 100 1 false (Volume 7) ∷ [];
+      shown = figures 250000 (Some 251000) (Some 251000) (Some 251000) (Some (pos 1000)) 100 1 false (Some 7) ∷ [];
     }
     -- replaced by one that agrees
     ∷ record {
@@ -500,7 +494,7 @@ summed =
       arrivals = 1 ∷ 2 ∷ 3 ∷ 4 ∷ [];
       said = 0 ∷ 0 ∷ 0 ∷ 0 ∷ [];
       used = 4;
-      shown = figures 250000 (Of 251000) (Of 251000) (Of 251000) (Amount (pos 1000)) 100 1 true (Volume 8) ∷ [];
+      shown = figures 250000 (Some 251000) (Some 251000) (Some 251000) (Some (pos 1000)) 100 1 true (Some 8) ∷ [];
     }
     -- and that by one whose high is another
     ∷ record {
@@ -511,7 +505,7 @@ summed =
       arrivals = 1 ∷ 2 ∷ 3 ∷ 4 ∷ 5 ∷ [];
       said = 0 ∷ 0 ∷ 0 ∷ 0 ∷ 0 ∷ [];
       used = 5;
-      shown = figures 250000 (Of 251000) (Of 251000) (Of 251000) (Amount (pos 1000)) 100 1 false (Volume 9) ∷ [];
+      shown = figures 250000 (Some 251000) (Some 251000) (Some 251000) (Some (pos 1000)) 100 1 false (Some 9) ∷ [];
     }
     -- where high and low differ: a J with another low
     ∷ record {
@@ -520,7 +514,7 @@ summed =
       arrivals = 1 ∷ 2 ∷ 3 ∷ 4 ∷ [];
       said = 0 ∷ 0 ∷ 0 ∷ 0 ∷ [];
       used = 4;
-      shown = figures 250000 (Of 260000) (Of 260000) (Of 251000) (Amount (pos 10000)) 400 2 false (Volume 7) ∷ [];
+      shown = figures 250000 (Some 260000) (Some 260000) (Some 251000) (Some (pos 10000)) 400 2 false (Some 7) ∷ [];
     }
     -- a J with the two turned
     ∷ record {
@@ -529,7 +523,7 @@ summed =
       arrivals = 1 ∷ 2 ∷ 3 ∷ 4 ∷ [];
       said = 0 ∷ 0 ∷ 0 ∷ 0 ∷ [];
       used = 4;
-      shown = figures 250000 (Of 260000) (Of 260000) (Of 251000) (Amount (pos 10000)) 400 2 false (Volume 7) ∷ [];
+      shown = figures 250000 (Some 260000) (Some 260000) (Some 251000) (Some (pos 10000)) 400 2 false (Some 7) ∷ [];
     }
     -- a J with another low, replaced by one that agrees
     ∷ record {
@@ -539,7 +533,7 @@ summed =
       arrivals = 1 ∷ 2 ∷ 3 ∷ 4 ∷ 5 ∷ [];
       said = 0 ∷ 0 ∷ 0 ∷ 0 ∷ 0 ∷ [];
       used = 5;
-      shown = figures 250000 (Of 260000) (Of 260000) (Of 251000) (Amount (pos 10000)) 400 2 true (Volume 8) ∷ [];
+      shown = figures 250000 (Some 260000) (Some 260000) (Some 251000) (Some (pos 10000)) 400 2 true (Some 8) ∷ [];
     }
     -- a J of zeros agrees with a row that has no high and no low
     ∷ record {
@@ -548,7 +542,7 @@ summed =
       arrivals = 1 ∷ 2 ∷ [];
       said = 0 ∷ 0 ∷ [];
       used = 2;
-      shown = figures 250000 Absent Absent Absent NoNet 0 0 true (Volume 3) ∷ [];
+      shown = figures 250000 None None None None 0 0 true (Some 3) ∷ [];
     }
     ∷ []
 
@@ -562,7 +556,7 @@ answered =
       arrivals = 1 ∷ 2 ∷ [];
       said = 0 ∷ 0 ∷ [];
       used = 2;
-      shown = priced 2000000000 1 1 1 (Amount (negsuc 1999999998)) 1 1 1 ∷ [];
+      shown = priced 2000000000 1 1 1 (Some (negsuc 1999999998)) 1 1 1 ∷ [];
     }
     -- no net where the close is 0
     ∷ record {
@@ -571,7 +565,7 @@ answered =
       arrivals = 1 ∷ 2 ∷ [];
       said = 0 ∷ 0 ∷ [];
       used = 2;
-      shown = priced 0 251000 251000 251000 NoNet 1 1 1 ∷ [];
+      shown = priced 0 251000 251000 251000 None 1 1 1 ∷ [];
     }
     -- equal prices
     ∷ record {
@@ -580,7 +574,7 @@ answered =
       arrivals = 1 ∷ 2 ∷ 3 ∷ [];
       said = 0 ∷ 0 ∷ 0 ∷ [];
       used = 3;
-      shown = priced 1000 1000 1000 1000 (Amount (pos 0)) 3 2 2 ∷ [];
+      shown = priced 1000 1000 1000 1000 (Some (pos 0)) 3 2 2 ∷ [];
     }
     -- the only high cancelled
     ∷ record {
@@ -591,7 +585,7 @@ answered =
       arrivals = 1 ∷ 2 ∷ 3 ∷ 4 ∷ [];
       said = 0 ∷ 0 ∷ 0 ∷ 0 ∷ [];
       used = 4;
-      shown = priced 1000 1000 1000 1000 (Amount (pos 0)) 1 1 3 ∷ [];
+      shown = priced 1000 1000 1000 1000 (Some (pos 0)) 1 1 3 ∷ [];
     }
     -- copies of numbers that are used up
     ∷ record {
@@ -600,7 +594,7 @@ answered =
       arrivals = 1 ∷ 1 ∷ 2 ∷ 2 ∷ 1 ∷ 3 ∷ [];
       said = 0 ∷ 2 ∷ 0 ∷ 2 ∷ 2 ∷ 0 ∷ [];
       used = 3;
-      shown = priced 250000 260000 260000 251000 (Amount (pos 10000)) 400 2 400 ∷ [];
+      shown = priced 250000 260000 260000 251000 (Some (pos 10000)) 400 2 400 ∷ [];
     }
     -- X with another price, another condition, a key that no line bears; X of Q 1; its key again; X of it with another size
     ∷ record {
@@ -612,7 +606,7 @@ answered =
       arrivals = 1 ∷ 2 ∷ 3 ∷ 4 ∷ 5 ∷ 6 ∷ 7 ∷ 8 ∷ [];
       said = 0 ∷ 0 ∷ 10 ∷ 10 ∷ 8 ∷ 0 ∷ 11 ∷ 9 ∷ [];
       used = 8;
-      shown = figures 250000 Absent Absent Absent NoNet 0 0 false (Volume 600) ∷ [];
+      shown = figures 250000 None None None None 0 0 false (Some 600) ∷ [];
     }
     -- when events and trades are due: T S T S O Q T M T Q E M T C T E; number 1 comes before any event, number 15 after event C
     ∷ record {
@@ -625,7 +619,7 @@ answered =
       arrivals = 1 ∷ 2 ∷ 3 ∷ 4 ∷ 5 ∷ 6 ∷ 7 ∷ 8 ∷ 9 ∷ 10 ∷ 11 ∷ 12 ∷ 13 ∷ 14 ∷ 15 ∷ 16 ∷ [];
       said = 6 ∷ 0 ∷ 0 ∷ 6 ∷ 6 ∷ 0 ∷ 0 ∷ 0 ∷ 0 ∷ 6 ∷ 0 ∷ 6 ∷ 0 ∷ 0 ∷ 6 ∷ 6 ∷ [];
       used = 16;
-      shown = priced 1000 1050 1100 900 (Amount (pos 50)) 30 4 13 ∷ [];
+      shown = priced 1000 1050 1100 900 (Some (pos 50)) 30 4 13 ∷ [];
     }
     -- every line used: X of the first, a T, a C of the second, X of the second
     ∷ record {
@@ -641,7 +635,7 @@ answered =
       arrivals = 1 ∷ 2 ∷ 3 ∷ 4 ∷ 5 ∷ 6 ∷ 7 ∷ 8 ∷ 9 ∷ 10 ∷ 11 ∷ 12 ∷ 13 ∷ 14 ∷ 15 ∷ 16 ∷ 17 ∷ [];
       said = 0 ∷ 0 ∷ 0 ∷ 0 ∷ 0 ∷ 0 ∷ 0 ∷ 0 ∷ 0 ∷ 0 ∷ 0 ∷ 0 ∷ 0 ∷ 0 ∷ 12 ∷ 12 ∷ 0 ∷ [];
       used = 17;
-      shown = priced 1000 1200 1200 300 (Amount (pos 200)) 75 10 17 ∷ [];
+      shown = priced 1000 1200 1200 300 (Some (pos 200)) 75 10 17 ∷ [];
     }
     -- a size of 0
     ∷ record {
@@ -650,7 +644,7 @@ answered =
       arrivals = 1 ∷ 2 ∷ [];
       said = 0 ∷ 5 ∷ [];
       used = 2;
-      shown = figures 250000 Absent Absent Absent NoNet 0 0 false NotSet ∷ [];
+      shown = figures 250000 None None None None 0 0 false None ∷ [];
     }
     -- two symbols, each with its own trades
     ∷ record {
@@ -662,8 +656,8 @@ answered =
       said = 0 ∷ 0 ∷ 0 ∷ 0 ∷ [];
       used = 4;
       shown =
-          priced 250000 260000 260000 251000 (Amount (pos 10000)) 400 2 400
-          ∷ figures_for efgh 100000 (Of 99000) (Of 99000) (Of 99000) (Amount (negsuc 999)) 70 1 false (Volume 70) ∷ [];
+          priced 250000 260000 260000 251000 (Some (pos 10000)) 400 2 400
+          ∷ figures_for efgh 100000 (Some 99000) (Some 99000) (Some 99000) (Some (negsuc 999)) 70 1 false (Some 70) ∷ [];
     }
     -- ABCD's trade named under EFGH; a T and an X under IJKL; ABCD's key on a T of EFGH
     ∷ record {
@@ -675,8 +669,8 @@ answered =
       said = 0 ∷ 0 ∷ 10 ∷ 7 ∷ 7 ∷ 11 ∷ [];
       used = 6;
       shown =
-          priced 250000 251000 251000 251000 (Amount (pos 1000)) 100 1 100
-          ∷ figures_for efgh 100000 Absent Absent Absent NoNet 0 0 false NotSet ∷ [];
+          priced 250000 251000 251000 251000 (Some (pos 1000)) 100 1 100
+          ∷ figures_for efgh 100000 None None None None 0 0 false None ∷ [];
     }
     -- a J of EFGH that would agree with ABCD's row
     ∷ record {
@@ -688,8 +682,8 @@ answered =
       said = 0 ∷ 0 ∷ 0 ∷ 0 ∷ [];
       used = 4;
       shown =
-          priced 250000 251000 251000 251000 (Amount (pos 1000)) 100 1 100
-          ∷ figures_for efgh 100000 (Of 99000) (Of 99000) (Of 99000) (Amount (negsuc 999)) 70 1 false (Volume 8) ∷ [];
+          priced 250000 251000 251000 251000 (Some (pos 1000)) 100 1 100
+          ∷ figures_for efgh 100000 (Some 99000) (Some 99000) (Some 99000) (Some (negsuc 999)) 70 1 false (Some 8) ∷ [];
     }
     -- and one that agrees with its own
     ∷ record {
@@ -701,8 +695,8 @@ answered =
       said = 0 ∷ 0 ∷ 0 ∷ 0 ∷ 0 ∷ [];
       used = 5;
       shown =
-          priced 250000 251000 251000 251000 (Amount (pos 1000)) 100 1 100
-          ∷ figures_for efgh 100000 (Of 99000) (Of 99000) (Of 99000) (Amount (negsuc 999)) 70 1 true (Volume 9) ∷ [];
+          priced 250000 251000 251000 251000 (Some (pos 1000)) 100 1 100
+          ∷ figures_for efgh 100000 (Some 99000) (Some 99000) (Some 99000) (Some (negsuc 999)) 70 1 true (Some 9) ∷ [];
     }
     ∷ []
 
@@ -719,7 +713,7 @@ bounded =
       arrivals = in_order 13;
       said = replicate 5 0 ++ replicate 8 5;
       used = 13;
-      shown = priced 1000 1300 1300 1000 (Amount (pos 300)) 15 4 5 ∷ [];
+      shown = priced 1000 1300 1300 1000 (Some (pos 300)) 15 4 5 ∷ [];
     }
     -- each class, Q N A P Z B; the bytes beside each of them; an X that names the first trade under another class
     ∷ record {
@@ -733,7 +727,7 @@ bounded =
       arrivals = in_order 15;
       said = replicate 7 0 ++ (replicate 7 5 ++ (0 ∷ []));
       used = 15;
-      shown = priced 1000 1000 1000 1000 (Amount (pos 0)) 62 5 8 ∷ [];
+      shown = priced 1000 1000 1000 1000 (Some (pos 0)) 62 5 8 ∷ [];
     }
     -- each event, O S Q M E C, and beside each the bytes next to it: O N P, S R T, Q, M L, E D F, C B; and O once more
     ∷ record {
@@ -742,7 +736,7 @@ bounded =
       arrivals = in_order 15;
       said = 0 ∷ 5 ∷ 5 ∷ 0 ∷ 5 ∷ 5 ∷ 0 ∷ 0 ∷ 5 ∷ 0 ∷ 5 ∷ 5 ∷ 0 ∷ 5 ∷ 6 ∷ [];
       used = 15;
-      shown = figures 1000 Absent Absent Absent NoNet 0 0 false NotSet ∷ [];
+      shown = figures 1000 None None None None 0 0 false None ∷ [];
     }
     -- J's high, low and close at their top, and one of them above it; the row has neither high nor low, so the J does not agree
     ∷ record {
@@ -753,7 +747,7 @@ bounded =
       arrivals = in_order 5;
       said = 0 ∷ 0 ∷ 5 ∷ 5 ∷ 5 ∷ [];
       used = 5;
-      shown = figures 1000 Absent Absent Absent NoNet 0 0 false (Volume 2) ∷ [];
+      shown = figures 1000 None None None None 0 0 false (Some 2) ∷ [];
     }
     -- a time that goes backwards, and 11's two times: the trade of the last millisecond is not the last; a correction before both keeps
     -- the older place; a T, an S, an X and a J of the next day's first millisecond
@@ -766,7 +760,7 @@ bounded =
       arrivals = in_order 8;
       said = 0 ∷ 0 ∷ 0 ∷ 0 ∷ 5 ∷ 5 ∷ 5 ∷ 5 ∷ [];
       used = 8;
-      shown = priced 1000 2000 2000 1500 (Amount (pos 1000)) 6 2 3 ∷ [];
+      shown = priced 1000 2000 2000 1500 (Some (pos 1000)) 6 2 3 ∷ [];
     }
     -- the largest size, twice, and the smallest and the largest consolidated volume
     ∷ record {
@@ -777,7 +771,7 @@ bounded =
       arrivals = in_order 3;
       said = 0 ∷ 0 ∷ 0 ∷ [];
       used = 3;
-      shown = priced 1000 1000 1000 1000 (Amount (pos 0)) 8589934590 2 18446744073709551615 ∷ [];
+      shown = priced 1000 1000 1000 1000 (Some (pos 0)) 8589934590 2 18446744073709551615 ∷ [];
     }
     -- numbers above 4,294,967,295, and that number itself, which is only too early
     ∷ record {
@@ -786,7 +780,7 @@ bounded =
       arrivals = 4294967296 ∷ 1 ∷ 4294967295 ∷ 4294967296 ∷ 18446744073709551615 ∷ 0 ∷ 2 ∷ 1 ∷ [];
       said = 1 ∷ 0 ∷ 3 ∷ 1 ∷ 1 ∷ 1 ∷ 0 ∷ 2 ∷ [];
       used = 2;
-      shown = priced 250000 251000 251000 251000 (Amount (pos 1000)) 100 1 100 ∷ [];
+      shown = priced 250000 251000 251000 251000 (Some (pos 1000)) 100 1 100 ∷ [];
     }
     -- 11: each type a byte too short and a byte too long; no such type; four bytes, which have no type
     ∷ record {
@@ -799,7 +793,7 @@ bounded =
       arrivals = in_order 13;
       said = 0 ∷ replicate 12 4;
       used = 13;
-      shown = figures 250000 Absent Absent Absent NoNet 0 0 false NotSet ∷ [];
+      shown = figures 250000 None None None None 0 0 false None ∷ [];
     }
     -- an event and a trade of PLS, which are no messages here
     ∷ record {
@@ -808,7 +802,7 @@ bounded =
       arrivals = 1 ∷ 2 ∷ 3 ∷ [];
       said = 4 ∷ 4 ∷ 0 ∷ [];
       used = 3;
-      shown = figures 250000 Absent Absent Absent NoNet 0 0 false NotSet ∷ [];
+      shown = figures 250000 None None None None 0 0 false None ∷ [];
     }
     -- codes that are not of their level: at 1 space ? A B, at 2 @ 3 8 E G N P, at 3 @ K M S V Y, at 4 @ C E G J L R T U Z
     ∷ record {
@@ -823,7 +817,7 @@ bounded =
       arrivals = in_order 28;
       said = 0 ∷ replicate 27 5;
       used = 28;
-      shown = figures 250000 Absent Absent Absent NoNet 0 0 false NotSet ∷ [];
+      shown = figures 250000 None None None None 0 0 false None ∷ [];
     }
     -- controls of ! and of ~, and one of ten letters; then of spaces, a space first, one in the middle, of byte 127, padded with zeros; and
     -- symbols of spaces and with a space first, which break the rule and are not merely unlisted
@@ -838,7 +832,7 @@ bounded =
       arrivals = in_order 11;
       said = replicate 4 0 ++ replicate 7 5;
       used = 11;
-      shown = priced 1000 1000 1000 1000 (Amount (pos 0)) 7 3 4 ∷ [];
+      shown = priced 1000 1000 1000 1000 (Some (pos 0)) 7 3 4 ∷ [];
     }
     ∷ []
 
@@ -852,7 +846,7 @@ spelt =
       arrivals = 1 ∷ 2 ∷ 3 ∷ [];
       said = 4 ∷ 0 ∷ 0 ∷ [];
       used = 3;
-      shown = silent 250000 251000 251000 251000 (Amount (pos 1000)) 100 1 ∷ [];
+      shown = silent 250000 251000 251000 251000 (Some (pos 1000)) 100 1 ∷ [];
     }
     -- W, all at X: its rows, with nothing reported
     ∷ record {
@@ -868,7 +862,7 @@ spelt =
       arrivals = in_order 6;
       said = replicate 6 0;
       used = 6;
-      shown = silent 250000 252500 252500 252500 (Amount (pos 2500)) 170 2 ∷ [];
+      shown = silent 250000 252500 252500 252500 (Some (pos 2500)) 170 2 ∷ [];
     }
     -- a cancel names its trade however it spells price and size; with another size it differs from the line
     ∷ record {
@@ -882,7 +876,7 @@ spelt =
       arrivals = in_order 4;
       said = 0 ∷ 0 ∷ 10 ∷ 0 ∷ [];
       used = 4;
-      shown = figures 250000 Absent Absent Absent NoNet 0 0 false NotSet ∷ [];
+      shown = figures 250000 None None None None 0 0 false None ∷ [];
     }
     -- a price that four bytes would take for 1, no digit, three decimals, centre Q, class B, a J and a trade of NLS Plus
     ∷ record {
@@ -900,7 +894,7 @@ spelt =
       arrivals = in_order 8;
       said = 0 ∷ replicate 5 5 ++ (4 ∷ 4 ∷ []);
       used = 8;
-      shown = figures 250000 Absent Absent Absent NoNet 0 0 false NotSet ∷ [];
+      shown = figures 250000 None None None None 0 0 false None ∷ [];
     }
     ∷ []
 

@@ -13,7 +13,7 @@ use Rattle.answers.proofs.Cases.{picked, picked_is}
 use Rattle.editions.specs.declared.Edition.{Edition}
 use Rattle.counters.specs.Counting.{last_number}
 use Rattle.sound.proofs.Sound.{sound_gives}
-use Rattle.message.specs.declared.Reading.{Reading}
+use Rattle.message.specs.Reader.{Reading}
 use Rattle.message.specs.Obeying.{Obeys}
 use Rattle.layouts.proofs.Apart.{others_refused}
 use Rattle.table.specs.Table.{Basis, content_table}

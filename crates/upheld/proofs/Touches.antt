@@ -1,6 +1,7 @@
 -- Every lent byte outside the cells that a call may store in stays, and no room changes its length; no row shows a volume that does
 -- not fit.
 -- Assumes nothing.
+use Rattle.std.specs.Prelude.{None, Option, Some, ℕ}
 use Prim.Native.Nat.{ℕ, suc, ◌+◌, ◌*◌, ◌^◌, ◌≤◌, ◌<◌}
 use mathlib.Core.Path.{◌≡◌, refl, ap, sym, ◌∙◌}
 use mathlib.Core.Logic.{◌⊎◌, ⊎_elim}
@@ -16,8 +17,6 @@ use Rattle.answers.specs.Cases.{says, given, in_book}
 use Rattle.records.specs.Fits.{RecordFits}
 use Rattle.records.specs.declared.Record.{Record}
 use Rattle.message.proofs.Fitting.{read_fits}
-use Rattle.cells.specs.declared.Found.{Found}
-use Rattle.cells.specs.declared.Found.TheVariants.{Nothing, At}
 use Rattle.cells.proofs.Slabs.{found_below}
 use Rattle.editions.specs.declared.Edition.{Edition}
 use Rattle.editions.specs.Editions.{reports}
@@ -282,7 +281,7 @@ module _ (s : State) where
 -- the first used row of the symbol, and the figures that its symbol's live lines mean
 pub record RowReads (s : State) (symbol : List ℕ) : Type 0 where
   pub row : Row
-  pub first : (i : ℕ) × (listing_of symbol (sheet_of s) ≡ At i) × (row ≡ get_or (rows_in s) i no_row)
+  pub first : (i : ℕ) × (listing_of symbol (sheet_of s) ≡ Some i) × (row ≡ get_or (rows_in s) i no_row)
   pub figures : Figures
   pub mean : Are symbol (lines_in s) figures
   pub reads : (shown s symbol).row ≡ shown_of row figures
@@ -296,9 +295,9 @@ row_reads s symbol z = go (listing_of symbol (sheet_of s)) refl (listed_there (s
     listed_there true false e = absurd (omega arith)
     listed_there false l e = absurd (omega arith)
 
-    go : (f : Found) → listing_of symbol (sheet_of s) ≡ f → is_listed symbol (sheet_of s) ≡ true → RowReads s symbol
-    go Nothing e l = absurd (true≢false (sym l ∙ ap is_found e))
-    go (At i) e l =
+    go : (f : Option ℕ) → listing_of symbol (sheet_of s) ≡ f → is_listed symbol (sheet_of s) ≡ true → RowReads s symbol
+    go None e l = absurd (true≢false (sym l ∙ ap is_found e))
+    go (Some i) e l =
         let b : i < length (sheet_of s) = found_below (is_of symbol) (sheet_of s) i e in
         let n : length (sheet_of s) ≡ length (rows_in s) = length-map (rows_in s) (λ (r : Row). r.listing) in
         let k : get_or (rows_in s) i no_row ≡ row_in s.rows i

@@ -1,5 +1,6 @@
 -- The figures that are worked out line by line are the figures as their meaning says them, and no others are.
 -- Assumes nothing.
+use Rattle.std.specs.Prelude.{None, Option, Some, ℕ}
 use Prim.Native.Nat.{ℕ, zero, suc, ◌+◌, ◌*◌, ◌≤◌, ◌<◌, min}
 use mathlib.Core.Path.{◌≡◌, refl, ap, sym, ◌∙◌}
 use mathlib.Core.Logic.{⊎_elim}
@@ -14,10 +15,7 @@ use Rattle.octets.specs.Run.{tab, Bytes}
 use Rattle.numbers.proofs.Laws.{be_below}
 use Rattle.lines.specs.Cell.{line_cell, line_cap, at_size}
 use Rattle.lines.specs.declared.Line.{Line}
-use Rattle.figures.specs.declared.Price.{Price}
-use Rattle.figures.specs.declared.Price.TheVariants.{Absent, Of}
-use Rattle.figures.specs.declared.Last.{Last}
-use Rattle.figures.specs.declared.Last.TheVariants.{NoLast, Trade}
+use Rattle.figures.specs.Figures.{last_trade}
 use Rattle.figures.specs.declared.Figures.{Figures}
 use Rattle.lines.specs.Lines.{line_from, line_at, line_limit, used_lines}
 use Rattle.figures.specs.Figures.{raise, lower, later, no_figures, sold}
@@ -25,6 +23,7 @@ use Rattle.walk.specs.Walking.{counts, dealt, tally, fold, figures_of}
 use Rattle.walk.specs.Meaning.{keep, live_of, bears_first, bears_second, first_mark, second_mark, sizes, Extreme, IsExtreme, IsHigh, IsLow}
 use Rattle.walk.specs.Meaning.{Newest, IsLast, Are}
 use Rattle.lines.proofs.Slabs.{used_lines_length}
+use Rattle.figures.specs.declared.LastTrade.{LastTrade}
 
 -- ---- one more line that passes, and one that does not
 
@@ -95,22 +94,22 @@ module _ (bounds : ℕ → ℕ → Type 0) (self : (p : ℕ) → bounds p p) (ls
       }
 
   extreme_more : (q : ℕ) (t : Bool) → (t ≡ true → (p : ℕ) → bounds q p → bounds l.price p) → (t ≡ false → bounds q l.price)
-      → Extreme bounds ls q → IsExtreme bounds (ls ++ (l ∷ [])) (cond t (Of l.price) (Of q))
+      → Extreme bounds ls q → IsExtreme bounds (ls ++ (l ∷ [])) (cond t (Some l.price) (Some q))
   extreme_more q true new old h = extreme_new q h (new refl)
   extreme_more q false new old h = extreme_kept q h (old refl)
 
 module _ (ls : List Line) (l : Line) where
-  high_more : (h : Price) → IsHigh ls h → IsHigh (ls ++ (l ∷ [])) (raise h l.price)
-  high_more Absent e = extreme_first (λ (high p : ℕ). p ≤ high) (λ p. omega arith) ls l e
-  high_more (Of q) e =
+  high_more : (h : Option ℕ) → IsHigh ls h → IsHigh (ls ++ (l ∷ [])) (raise h l.price)
+  high_more None e = extreme_first (λ (high p : ℕ). p ≤ high) (λ p. omega arith) ls l e
+  high_more (Some q) e =
       extreme_more (λ (high p : ℕ). p ≤ high) (λ p. omega arith) ls l q (ltb q l.price)
       (λ t p b. omega (arith, ltb-true q l.price t))
       (λ t. ltb-false q l.price t)
       e
 
-  low_more : (h : Price) → IsLow ls h → IsLow (ls ++ (l ∷ [])) (lower h l.price)
-  low_more Absent e = extreme_first (λ (low p : ℕ). low ≤ p) (λ p. omega arith) ls l e
-  low_more (Of q) e =
+  low_more : (h : Option ℕ) → IsLow ls h → IsLow (ls ++ (l ∷ [])) (lower h l.price)
+  low_more None e = extreme_first (λ (low p : ℕ). low ≤ p) (λ p. omega arith) ls l e
+  low_more (Some q) e =
       extreme_more (λ (low p : ℕ). low ≤ p) (λ p. omega arith) ls l q (ltb l.price q)
       (λ t p b. omega (arith, ltb-true l.price q t))
       (λ t. ltb-false l.price q t)
@@ -168,11 +167,15 @@ module _ (ls : List Line) (l : Line) where
           no_greater = each_more (λ (y : Line). y.place ≤ v) h.after l h.no_greater b;
         }
 
-  last_more : (h : Last) → IsLast ls h → IsLast (ls ++ (l ∷ [])) (later h l.place l.price)
-  last_more NoLast e = newest_only e
-  last_more (Trade v p) e = go (ltb v l.place) refl
+  last_more : (h : Option LastTrade) → IsLast ls h → IsLast (ls ++ (l ∷ [])) (later h l.place l.price)
+  last_more None e = newest_only e
+  last_more (Some last) e = go (ltb v l.place) refl
     where
-      go : (t : Bool) → ltb v l.place ≡ t → IsLast (ls ++ (l ∷ [])) (cond t (Trade l.place l.price) (Trade v p))
+      v p : ℕ
+      v = last.place
+      p = last.price
+
+      go : (t : Bool) → ltb v l.place ≡ t → IsLast (ls ++ (l ∷ [])) (cond t (Some (last_trade l.place l.price)) (Some last))
       go true t = newest_new v p e (ltb-true v l.place t)
       go false t = newest_kept v p e (ltb-false v l.place t)
 
@@ -241,14 +244,14 @@ module _ (bounds : ℕ → ℕ → Type 0) (two : (p q : ℕ) → bounds p q →
   extreme_some : (p : ℕ) → Extreme bounds ls p → ls ≡ [] → ⊥
   extreme_some p h e = mathlib.Core.List.Memᴰ.not-nil (rw e at h.among)
 
-  extreme_one : (x y : Price) → IsExtreme bounds ls x → IsExtreme bounds ls y → x ≡ y
-  extreme_one Absent Absent a b = refl
-  extreme_one Absent (Of q) a b = absurd (extreme_some q b a)
-  extreme_one (Of p) Absent a b = absurd (extreme_some p a b)
-  extreme_one (Of p) (Of q) a b =
+  extreme_one : (x y : Option ℕ) → IsExtreme bounds ls x → IsExtreme bounds ls y → x ≡ y
+  extreme_one None None a b = refl
+  extreme_one None (Some q) a b = absurd (extreme_some q b a)
+  extreme_one (Some p) None a b = absurd (extreme_some p a b)
+  extreme_one (Some p) (Some q) a b =
       let h : bounds p q = rw b.price at (a.every b.line b.among) in
       let g : bounds q p = rw a.price at (b.every a.line a.among) in
-      ap Of (two p q h g)
+      ap Some (two p q h g)
 
 -- x stands before y: then not both can be the newest
 place_apart : (c : List Line) (x y z : Line) (a d : List Line) → x ∷ a ≡ z ∷ (c ++ (y ∷ d))
@@ -284,15 +287,16 @@ module _ (ls : List Line) where
       (λ l m. omega (arith, b.smaller l m, b.place))
       (λ l m. omega (arith, b.no_greater l m, b.place))
 
-  last_one : (x y : Last) → IsLast ls x → IsLast ls y → x ≡ y
-  last_one NoLast NoLast a b = refl
-  last_one NoLast (Trade w q) a b = absurd (newest_some w q b a)
-  last_one (Trade v p) NoLast a b = absurd (newest_some v p a b)
-  last_one (Trade v p) (Trade w q) a b =
-      let e : a.line ≡ b.line = newest_one v p w q a b in
-      let place : v ≡ w = sym a.place ∙ ap (λ (l : Line). l.place) e ∙ b.place in
-      let price : p ≡ q = sym a.price ∙ ap (λ (l : Line). l.price) e ∙ b.price in
-      rw (place, price)
+  last_one : (x y : Option LastTrade) → IsLast ls x → IsLast ls y → x ≡ y
+  last_one None None a b = refl
+  last_one None (Some y) a b = absurd (newest_some y.place y.price b a)
+  last_one (Some x) None a b = absurd (newest_some x.place x.price a b)
+  last_one (Some x) (Some y) a b =
+      let e : a.line ≡ b.line = newest_one x.place x.price y.place y.price a b in
+      let place : x.place ≡ y.place = sym a.place ∙ ap (λ (l : Line). l.place) e ∙ b.place in
+      let price : x.price ≡ y.price = sym a.price ∙ ap (λ (l : Line). l.price) e ∙ b.price in
+      let made : last_trade x.place x.price ≡ last_trade y.place y.price = cc in
+      ap Some made
 
 -- the meaning leaves one value
 pub figures_one : {symbol : List ℕ} {ls : List Line} {f g : Figures} → Are symbol ls f → Are symbol ls g → f ≡ g
@@ -302,7 +306,7 @@ figures_one {symbol} {ls} {f} {g} a b =
     (extreme_one (λ (low p : ℕ). low ≤ p) (λ p q h k. omega arith) (first_mark (live_of symbol ls)) f.low g.low a.low b.low)
     (last_one (second_mark (live_of symbol ls)) f.last g.last a.last b.last)
   where
-    made : ℕ → ℕ → Price → Price → Last → Figures
+    made : ℕ → ℕ → Option ℕ → Option ℕ → Option LastTrade → Figures
     made v c h l z = record { volume = v; count = c; high = h; low = l; last = z }
 
     same : f.volume ≡ g.volume → f.count ≡ g.count → f.high ≡ g.high → f.low ≡ g.low → f.last ≡ g.last → f ≡ g

@@ -1,16 +1,13 @@
 -- What a row's figures mean: each is said of the live lines of its symbol as they stand together, in the order added.
 -- The first mark of a condition is the one for high and low, the second the one for last.
 -- Assumes nothing.
-use Rattle.std.specs.Prelude.{ℕ, ◌+◌, ◌≤◌, ◌<◌, ◌≡◌, Bool, cond, length}
+use Rattle.std.specs.Prelude.{ℕ, ◌+◌, ◌≤◌, ◌<◌, ◌≡◌, Bool, cond, length, None, Option, Some}
 use mathlib.Core.List.{List, [], ◌∷◌, ◌++◌, Memᴰ}
 use Rattle.conditions.specs.Conditions.{condition_marks}
 use Rattle.lines.specs.declared.Line.{Line}
-use Rattle.figures.specs.declared.Price.{Price}
-use Rattle.figures.specs.declared.Price.TheVariants.{Absent, Of}
-use Rattle.figures.specs.declared.Last.{Last}
-use Rattle.figures.specs.declared.Last.TheVariants.{NoLast, Trade}
 use Rattle.figures.specs.declared.Figures.{Figures}
 use Rattle.walk.specs.Walking.{counts}
+use Rattle.figures.specs.declared.LastTrade.{LastTrade}
 
 -- ---- which lines
 
@@ -50,16 +47,16 @@ pub record Extreme (bounds : ℕ → ℕ → Type 0) (ls : List Line) (p : ℕ) 
   pub every : (l : Line) → Memᴰ l ls → bounds p l.price
 
 -- absent exactly where there is no line
-abbrev pub IsExtreme : (ℕ → ℕ → Type 0) → List Line → Price → Type 0
-IsExtreme bounds ls Absent = ls ≡ []
-IsExtreme bounds ls (Of p) = Extreme bounds ls p
+abbrev pub IsExtreme : (ℕ → ℕ → Type 0) → List Line → Option ℕ → Type 0
+IsExtreme bounds ls None = ls ≡ []
+IsExtreme bounds ls (Some p) = Extreme bounds ls p
 
 -- the highest price
-abbrev pub IsHigh : List Line → Price → Type 0
+abbrev pub IsHigh : List Line → Option ℕ → Type 0
 IsHigh = IsExtreme (λ (high p : ℕ). p ≤ high)
 
 -- the lowest price
-abbrev pub IsLow : List Line → Price → Type 0
+abbrev pub IsLow : List Line → Option ℕ → Type 0
 IsLow = IsExtreme (λ (low p : ℕ). low ≤ p)
 
 -- one of the lines has the place v and the price p; lines before it have smaller places, lines after it no greater ones
@@ -74,9 +71,9 @@ pub record Newest (ls : List Line) (v p : ℕ) : Type 0 where
   pub no_greater : (l : Line) → Memᴰ l after → l.place ≤ v
 
 -- the price of the line with the greatest place, of equal ones the first; none where there is no line
-abbrev pub IsLast : List Line → Last → Type 0
-IsLast ls NoLast = ls ≡ []
-IsLast ls (Trade place price) = Newest ls place price
+abbrev pub IsLast : List Line → Option LastTrade → Type 0
+IsLast ls None = ls ≡ []
+IsLast ls (Some last) = Newest ls last.place last.price
 
 -- ---- the figures
 

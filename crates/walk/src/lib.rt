@@ -10,7 +10,7 @@ ghost use Rattle.figures.specs.Figures.{sold};
 ghost use Rattle.walk.specs.Walking.{dealt, figures_of};
 
 use conditions::Marks;
-use figures::{Figures, Last, Price};
+use figures::Figures;
 use lines::{CELL, CONDITION, LIVE, PLACE, PRICE, SIZE, SYMBOL};
 
 // The figures with one more trade.
@@ -74,9 +74,9 @@ pub fn walk(lines: &[u8], used: usize, symbol: [u8; 8]) -> Figures
     let mut t = Figures {
         volume: 0,
         count: 0,
-        high: Price::Absent,
-        low: Price::Absent,
-        last: Last::NoLast,
+        high: None,
+        low: None,
+        last: None,
     };
     let mut i: usize = 0;
     while i < n {

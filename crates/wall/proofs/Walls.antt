@@ -1,5 +1,6 @@
 -- The wall's text stands whole at the front of a space for 64 rows, and of a tape that was read through it is the text of its bytes.
 -- Assumes nothing.
+use Rattle.std.specs.Prelude.{Option, ℕ}
 use Rattle.std.proofs.Common.{◌≡◌, ℕ, ◌^◌, ◌<◌, ◌≤◌, List, length, take, drop, min, ap, ap₂, ◌∙◌, arith, rules, true, Result, Ok, Err, OnOk}
 use Rattle.std.specs.Result.{is_ok}
 use native.Mathlib.Nat.{mod-eq_of_lt}
@@ -15,12 +16,11 @@ use Rattle.tape.specs.declared.Stop.{Stop}
 use Rattle.tape.specs.Playing.{played}
 use Rattle.tape.proofs.Pieces.{used_within}
 use Rattle.feed.specs.Reading.{wrapped}
-use Rattle.page.specs.declared.Ending.{Ending}
 use Rattle.page.specs.Page.{wall_of, ending_at, wall_text}
 use Rattle.page.specs.Printable.{Printable, wall_longest}
 use Rattle.page.proofs.WallLongest.{wall_longest_lem}
 
-pub whole : (s : State) (e e' : Ending) (space out : List ℕ) (n : ℕ) → Printable s e → e ≡ e' → row_limit (length s.rows) ≤ 64
+pub whole : (s : State) (e e' : Option ℕ) (space out : List ℕ) (n : ℕ) → Printable s e → e ≡ e' → row_limit (length s.rows) ≤ 64
     → wall_longest 64 ≡ length space → out ≡ sets space 0 (wall_of s e) → n ≡ min (length (wall_of s e)) (length space)
     → take n out ≡ wall_of s e'
 whole s e e' space out n p q limit room bytes count =

@@ -2,6 +2,7 @@
 -- that contract as the compiler hands it to a caller: of the arguments, of the result, and of the arguments again as the
 -- call returns.
 -- Assumes nothing.
+use Rattle.std.specs.Prelude.{Option}
 use mathlib.Core.Path.{◌≡◌, refl, sym, ◌∙◌}
 use mathlib.Core.List.{List}
 use Prim.Native.Nat.{ℕ}
@@ -10,7 +11,6 @@ use contract.Lifetimes.{Lfts}
 use borrow.Fn.World.{ArgsD}
 use borrow.Fn.Kinds.{ended_of}
 use denote.Triple.Clauses.{AtExit}
-use Rattle.words.specs.declared.Meant.{Meant}
 use Rattle.words.specs.Words.{counter_count, counter_words, counters_of, row_words}
 use Rattle.words.proofs.counters.Reads as counters-reads
 use Rattle.words.specs.contracts.put_counters as put-counters
@@ -22,13 +22,14 @@ use Rattle.words.proofs.put_fresh.Kinds as put-fresh-kinds
 use Rattle.words.specs.contracts.put_row as put-row
 use Rattle.words.proofs.put_row.Reads as put-row-reads
 use Rattle.words.proofs.put_row.Kinds as put-row-kinds
+use Rattle.counters.specs.declared.Counters.{Counters}
 
-pub counters_one : (w w₁ w₂ : List ℕ) (r r' : Meant) → counters-reads.Learnt tt (w, tt) r (w₁, tt)
+pub counters_one : (w w₁ w₂ : List ℕ) (r r' : Option Counters) → counters-reads.Learnt tt (w, tt) r (w₁, tt)
     → counters-reads.Learnt tt (w, tt) r' (w₂, tt) → r ≡ r'
 counters_one w w₁ w₂ r r' h h' = h.0 ∙ sym h'.0
 
 -- what a caller is told, and nothing else
-pub counters_says : (w w₁ : List ℕ) (r : Meant)
+pub counters_says : (w w₁ : List ℕ) (r : Option Counters)
     → counters-reads.Learnt tt (w, tt) r (w₁, tt) ≡ ((r ≡ counters_of w) × (length w ≡ counter_count))
 counters_says w w₁ r = refl
 

@@ -1,5 +1,6 @@
 -- Nothing of a row is lost in its words: two rows with the same words are the same row.
 -- Assumes nothing.
+use Rattle.std.specs.Prelude.{None, Option, Some, ℕ, ℤ}
 use Prim.Native.Nat.{ℕ, ◌<◌, ◌^◌}
 use mathlib.Core.Path.{◌≡◌, refl, ap, sym, ◌∙◌}
 use mathlib.Core.Bool.{Bool, true, false, cond}
@@ -12,12 +13,6 @@ use Rattle.octets.specs.Run.{Bytes}
 use Rattle.numbers.specs.Number.{be, digits}
 use Rattle.numbers.proofs.Trips.{digits_part}
 use Rattle.octets.proofs.Trips.{whole}
-use Rattle.figures.specs.declared.Price.{Price}
-use Rattle.figures.specs.declared.Price.TheVariants.{Absent, Of}
-use Rattle.rows.specs.declared.Reported.{Reported}
-use Rattle.rows.specs.declared.Reported.TheVariants.{NotSet, Volume}
-use Rattle.show.specs.declared.Net.{Net}
-use Rattle.show.specs.declared.Net.TheVariants.{NoNet, Amount}
 use Rattle.show.specs.declared.RowShown.{RowShown}
 use Rattle.words.specs.Words.{price_mark, price_word, signed_word, net_mark, net_word, reported_mark, reported_word, row_words}
 use Rattle.show.specs.Fits.{NetFits}
@@ -34,11 +29,11 @@ symbol_back xs e b =
 pub symbol_told : (xs ys : List ℕ) → length xs ≡ 8 → Bytes xs → length ys ≡ 8 → Bytes ys → be xs ≡ be ys → xs ≡ ys
 symbol_told xs ys e b f c q = sym (symbol_back xs e b) ∙ ap (digits 8) q ∙ symbol_back ys f c
 
-pub price_told : (p q : Price) → price_mark p ≡ price_mark q → price_word p ≡ price_word q → p ≡ q
-price_told Absent Absent m w = refl
-price_told Absent (Of y) m w = absurd (omega arith)
-price_told (Of x) Absent m w = absurd (omega arith)
-price_told (Of x) (Of y) m w = ap Of w
+pub price_told : (p q : Option ℕ) → price_mark p ≡ price_mark q → price_word p ≡ price_word q → p ≡ q
+price_told None None m w = refl
+price_told None (Some y) m w = absurd (omega arith)
+price_told (Some x) None m w = absurd (omega arith)
+price_told (Some x) (Some y) m w = ap Some w
 
 pub signed_told : (x y : ℤ) → mag x < 2 ^ 63 → mag y < 2 ^ 63 → signed_word x ≡ signed_word y → x ≡ y
 signed_told (pos a) (pos b) h k e = ap pos e
@@ -46,11 +41,11 @@ signed_told (pos a) (negsuc b) h k e = absurd (omega arith)
 signed_told (negsuc a) (pos b) h k e = absurd (omega arith)
 signed_told (negsuc a) (negsuc b) h k e = let f : a ≡ b = omega arith in ap negsuc f
 
-pub net_told : (n o : Net) → NetFits n → NetFits o → net_mark n ≡ net_mark o → net_word n ≡ net_word o → n ≡ o
-net_told NoNet NoNet h k m w = refl
-net_told NoNet (Amount y) h k m w = absurd (omega arith)
-net_told (Amount x) NoNet h k m w = absurd (omega arith)
-net_told (Amount x) (Amount y) h k m w = ap Amount (signed_told x y h k w)
+pub net_told : (n o : Option ℤ) → NetFits n → NetFits o → net_mark n ≡ net_mark o → net_word n ≡ net_word o → n ≡ o
+net_told None None h k m w = refl
+net_told None (Some y) h k m w = absurd (omega arith)
+net_told (Some x) None h k m w = absurd (omega arith)
+net_told (Some x) (Some y) h k m w = ap Some (signed_told x y h k w)
 
 pub agrees_told : (a b : Bool) → ◌≡◌ {A = ℕ} (cond a 1 0) (cond b 1 0) → a ≡ b
 agrees_told true true e = refl
@@ -58,15 +53,15 @@ agrees_told true false e = absurd (omega arith)
 agrees_told false true e = absurd (omega arith)
 agrees_told false false e = refl
 
-pub reported_told : (r o : Reported) → reported_mark r ≡ reported_mark o → reported_word r ≡ reported_word o → r ≡ o
-reported_told NotSet NotSet m w = refl
-reported_told NotSet (Volume y) m w = absurd (omega arith)
-reported_told (Volume x) NotSet m w = absurd (omega arith)
-reported_told (Volume x) (Volume y) m w = ap Volume w
+pub reported_told : (r o : Option ℕ) → reported_mark r ≡ reported_mark o → reported_word r ≡ reported_word o → r ≡ o
+reported_told None None m w = refl
+reported_told None (Some y) m w = absurd (omega arith)
+reported_told (Some x) None m w = absurd (omega arith)
+reported_told (Some x) (Some y) m w = ap Some w
 
 -- ---- the row
 
-row_of : (o : RowShown) (y : List ℕ) (k : ℕ) (l h w : Price) (n : Net) (v c : ℕ) (a : Bool) (p : Reported)
+row_of : (o : RowShown) (y : List ℕ) (k : ℕ) (l h w : Option ℕ) (n : Option ℤ) (v c : ℕ) (a : Bool) (p : Option ℕ)
     → y ≡ o.symbol → k ≡ o.close → l ≡ o.last → h ≡ o.high → w ≡ o.low → n ≡ o.net → v ≡ o.volume → c ≡ o.count
     → a ≡ o.agrees → p ≡ o.reported
     → ◌≡◌ {A = RowShown}

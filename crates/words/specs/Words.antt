@@ -1,23 +1,13 @@
 -- How counters and rows travel to and from a program of another language: which word is which.
 -- Assumes nothing.
-use Rattle.std.specs.Prelude.{ℕ, ◌-◌, List, [], ◌∷◌, cond, ℤ, pos, negsuc, length, get_or, set}
+use Rattle.std.specs.Prelude.{ℕ, ◌-◌, List, [], ◌∷◌, cond, ℤ, pos, negsuc, length, get_or, set, None, Option, Some}
 use Rattle.numbers.specs.Number.{be}
 use Rattle.editions.specs.declared.Edition.{Edition}
 use Rattle.editions.specs.declared.Edition.TheVariants.{NlsPlus}
-use Rattle.editions.specs.declared.Named.{Named}
-use Rattle.editions.specs.declared.Named.TheVariants.{Known, Unknown}
 use Rattle.editions.specs.Editions.{edition_number, edition_named}
 use Rattle.counters.specs.declared.Counters.{Counters}
 use Rattle.counters.specs.Counting.{started_for, fresh_counters}
-use Rattle.figures.specs.declared.Price.{Price}
-use Rattle.figures.specs.declared.Price.TheVariants.{Absent, Of}
-use Rattle.rows.specs.declared.Reported.{Reported}
-use Rattle.rows.specs.declared.Reported.TheVariants.{NotSet, Volume}
-use Rattle.show.specs.declared.Net.{Net}
-use Rattle.show.specs.declared.Net.TheVariants.{NoNet, Amount}
 use Rattle.show.specs.declared.RowShown.{RowShown}
-use Rattle.words.specs.declared.Meant.{Meant}
-use Rattle.words.specs.declared.Meant.TheVariants.{Book, NoBook}
 
 -- ---- counters
 
@@ -41,12 +31,12 @@ counters_for e w =
       taken = get_or w 4 0;
     }
 
-abbrev pub meant_for : Named → List ℕ → Meant
-meant_for (Known e) w = Book (counters_for e w)
-meant_for Unknown w = NoBook
+abbrev pub meant_for : Option Edition → List ℕ → Option Counters
+meant_for (Some e) w = Some (counters_for e w)
+meant_for None w = None
 
 -- what words are: the counters of a book of the edition that the last word names; no book's, if it names none
-unfoldable pub counters_of : List ℕ → Meant
+unfoldable pub counters_of : List ℕ → Option Counters
 counters_of w = meant_for (edition_named (get_or w edition_at 0)) w
 
 -- the words of a fresh book with a number in the edition's place
@@ -59,34 +49,34 @@ counter_count = length (counter_words (fresh_counters NlsPlus))
 
 -- ---- a row; a figure that may be absent is a mark, 1 where it is there, and the figure, 0 where it is not
 
-abbrev pub price_mark : Price → ℕ
-price_mark Absent = 0
-price_mark (Of p) = 1
+abbrev pub price_mark : Option ℕ → ℕ
+price_mark None = 0
+price_mark (Some p) = 1
 
-abbrev pub price_word : Price → ℕ
-price_word Absent = 0
-price_word (Of p) = p
+abbrev pub price_word : Option ℕ → ℕ
+price_word None = 0
+price_word (Some p) = p
 
 -- two's complement in 64 bits
 abbrev pub signed_word : ℤ → ℕ
 signed_word (pos n) = n
 signed_word (negsuc n) = 18446744073709551615 - n
 
-abbrev pub net_mark : Net → ℕ
-net_mark NoNet = 0
-net_mark (Amount x) = 1
+abbrev pub net_mark : Option ℤ → ℕ
+net_mark None = 0
+net_mark (Some x) = 1
 
-abbrev pub net_word : Net → ℕ
-net_word NoNet = 0
-net_word (Amount x) = signed_word x
+abbrev pub net_word : Option ℤ → ℕ
+net_word None = 0
+net_word (Some x) = signed_word x
 
-abbrev pub reported_mark : Reported → ℕ
-reported_mark NotSet = 0
-reported_mark (Volume v) = 1
+abbrev pub reported_mark : Option ℕ → ℕ
+reported_mark None = 0
+reported_mark (Some v) = 1
 
-abbrev pub reported_word : Reported → ℕ
-reported_word NotSet = 0
-reported_word (Volume v) = v
+abbrev pub reported_word : Option ℕ → ℕ
+reported_word None = 0
+reported_word (Some v) = v
 
 -- 0 the symbol's eight bytes as one number, 1 close, 2 3 last, 4 5 high, 6 7 low, 8 9 net change, 10 volume, 11 count, 12 agrees,
 -- 13 14 reported consolidated volume

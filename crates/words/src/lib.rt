@@ -6,18 +6,9 @@ ghost use Rattle.std.specs.Prelude.{◌≡◌, cond, length};
 ghost use Rattle.words.specs.Words as W;
 
 use counters::{Counters, Start};
-use editions::{Edition, Named, edition_of};
-use figures::Price;
+use editions::{Edition, edition_of};
 use numbers::number8;
-use rows::Reported;
-use show::{Net, RowShown};
-
-// What words are: the counters of a book, or no book's words, because the last of them is no edition's number.
-#[derive(Clone, Copy)]
-pub enum Meant {
-    Book(Counters),
-    NoBook,
-}
+use show::RowShown;
 
 // How many words the counters are, and how many a row is.
 pub const COUNTERS: usize = 6;
@@ -28,12 +19,12 @@ pub const ROW: usize = 15;
 const EDITION: usize = 5;
 
 // What the words are. There are as many words as the counters have.
-pub fn counters(w: [u64; COUNTERS]) -> Meant
+pub fn counters(w: [u64; COUNTERS]) -> Option<Counters>
     ensures counters { result ≡ W.counters_of w }
     ensures count { length w ≡ W.counter_count }
 {
     match edition_of(w[EDITION]) {
-        Named::Known(e) => Meant::Book(Counters {
+        Some(e) => Some(Counters {
             start: Start { edition: e },
             wanted: w[0],
             phase: w[1],
@@ -41,7 +32,7 @@ pub fn counters(w: [u64; COUNTERS]) -> Meant
             lines: w[3] as usize,
             taken: w[4],
         }),
-        Named::Unknown => Meant::NoBook,
+        None => None,
     }
 }
 
@@ -63,30 +54,30 @@ pub fn put_fresh(w: &mut [u64; COUNTERS], edition: u64)
     w[EDITION] = edition;
 }
 
-fn price_mark(p: Price) -> u64
+fn price_mark(p: Option<u32>) -> u64
     ensures { result ≡ W.price_mark p }
 {
     match p {
-        Price::Absent => 0,
-        Price::Of(x) => 1,
+        None => 0,
+        Some(x) => 1,
     }
 }
 
-fn price_word(p: Price) -> u64
+fn price_word(p: Option<u32>) -> u64
     ensures { result ≡ W.price_word p }
 {
     match p {
-        Price::Absent => 0,
-        Price::Of(x) => x as u64,
+        None => 0,
+        Some(x) => x as u64,
     }
 }
 
-fn net_mark(n: Net) -> u64
+fn net_mark(n: Option<i64>) -> u64
     ensures { result ≡ W.net_mark n }
 {
     match n {
-        Net::NoNet => 0,
-        Net::Amount(x) => 1,
+        None => 0,
+        Some(x) => 1,
     }
 }
 
@@ -100,12 +91,12 @@ fn signed_word(x: i64) -> u64
     x as u64
 }
 
-fn net_word(n: Net) -> u64
+fn net_word(n: Option<i64>) -> u64
     ensures { result ≡ W.net_word n }
 {
     match n {
-        Net::NoNet => 0,
-        Net::Amount(x) => signed_word(x),
+        None => 0,
+        Some(x) => signed_word(x),
     }
 }
 
@@ -115,21 +106,21 @@ fn agrees_word(b: bool) -> u64
     if b { 1 } else { 0 }
 }
 
-fn reported_mark(r: Reported) -> u64
+fn reported_mark(r: Option<u64>) -> u64
     ensures { result ≡ W.reported_mark r }
 {
     match r {
-        Reported::NotSet => 0,
-        Reported::Volume(v) => 1,
+        None => 0,
+        Some(v) => 1,
     }
 }
 
-fn reported_word(r: Reported) -> u64
+fn reported_word(r: Option<u64>) -> u64
     ensures { result ≡ W.reported_word r }
 {
     match r {
-        Reported::NotSet => 0,
-        Reported::Volume(v) => v,
+        None => 0,
+        Some(v) => v,
     }
 }
 

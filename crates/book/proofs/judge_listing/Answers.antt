@@ -24,16 +24,16 @@ returns-then-c-ne1 c = list_late _ _ (sym c.is_sound.ensures ∙ c.if-not-is_sou
 pub returns-then-limit-c : goal.returns-then-limit-c
 returns-then-limit-c c = list_new _ _ (sym c.is_sound.ensures ∙ c.if-not-is_sound.false)
     (as_promised _ _ _ _ c.is_text.ensures c.if-not-is_text-l.false) c.if-c-ne1.false
-    (sym c.find.ensures ∙ c.in-Nothing.is) true
+    (sym c.find.ensures ∙ c.in-None.is) true
     (le-leb _ _ (rw c.limit.ensures at c.if-limit-c.true))
 
 pub returns-else-limit-c : goal.returns-else-limit-c
 returns-else-limit-c c = list_new _ _ (sym c.is_sound.ensures ∙ c.if-not-is_sound.false)
     (as_promised _ _ _ _ c.is_text.ensures c.if-not-is_text-l.false) c.if-c-ne1.false
-    (sym c.find.ensures ∙ c.in-Nothing.is) false
+    (sym c.find.ensures ∙ c.in-None.is) false
     (lt-leb _ _ (rw c.limit.ensures at c.if-limit-c.false))
 
-pub returns-in-At : goal.returns-in-At
-returns-in-At c = list_there _ _ (sym c.is_sound.ensures ∙ c.if-not-is_sound.false)
+pub returns-in-Some : goal.returns-in-Some
+returns-in-Some c = list_there _ _ (sym c.is_sound.ensures ∙ c.if-not-is_sound.false)
     (as_promised _ _ _ _ c.is_text.ensures c.if-not-is_text-l.false) c.if-c-ne1.false _
-    (sym c.find.ensures ∙ c.in-At.is)
+    (sym c.find.ensures ∙ c.in-Some.is)

@@ -5,15 +5,15 @@ use Rattle.table.specs.Table.{ledger_in}
 use Rattle.table.specs.Working.{on_row, listed_at, listed_by}
 use Rattle.table.proofs.judge_listed.Goals as goal
 
-pub returns-in-Nothing : goal.returns-in-Nothing
+pub returns-in-None : goal.returns-in-None
 unfolding listed_by
-returns-in-Nothing c = let a = c.args in
+returns-in-None c = let a = c.args in
     c.plainly.ensures ∙ sym (ap (listed_at (ledger_in a.lines.now a.used) a.kind a.r)
-    (sym c.find.ensures ∙ c.in-Nothing.is))
+    (sym c.find.ensures ∙ c.in-None.is))
 
-pub returns-in-At : goal.returns-in-At
+pub returns-in-Some : goal.returns-in-Some
 unfolding listed_by
-returns-in-At c = let a = c.args in
+returns-in-Some c = let a = c.args in
     ap (on_row _) c.judge_trade-traded.ensures
     ∙ sym (ap (listed_at (ledger_in a.lines.now a.used) a.kind a.r)
-    (sym c.find.ensures ∙ c.in-At.is))
+    (sym c.find.ensures ∙ c.in-Some.is))

@@ -1,20 +1,21 @@
 -- `words::counters` meets its contract.
 -- Assumes nothing.
+use Rattle.std.specs.Prelude.{Option}
 use mathlib.Core.Path.{◌≡◌, ap, sym, ◌∙◌}
 use lib.ListN.{length}
-use Rattle.editions.specs.declared.Named.{Named}
 use Rattle.words.specs.Words.{counter_count, counter_words, meant_for, counters_of}
 use borrow.Author.Rules.{rules}
 use Rattle.words.proofs.counters.Goals as goal
+use Rattle.editions.specs.declared.Edition.{Edition}
 
-pub returns-in-Known : goal.returns-in-Known
+pub returns-in-Some : goal.returns-in-Some
 unfolding counters_of counter_words
-returns-in-Known c =
+returns-in-Some c =
     let counted : length c.args.w ≡ counter_count = search rules in
-    let w = c.args.w in record { counters = ap (λ (n : Named). meant_for n w) (sym c.in-Known.is ∙ c.edition_of.ensures); count = counted }
+    let w = c.args.w in record { counters = ap (λ (n : Option Edition). meant_for n w) (sym c.in-Some.is ∙ c.edition_of.ensures); count = counted }
 
-pub returns-in-Unknown : goal.returns-in-Unknown
+pub returns-in-None : goal.returns-in-None
 unfolding counters_of counter_words
-returns-in-Unknown c =
+returns-in-None c =
     let counted : length c.args.w ≡ counter_count = search rules in
-    let w = c.args.w in record { counters = ap (λ (n : Named). meant_for n w) (sym c.in-Unknown.is ∙ c.edition_of.ensures); count = counted }
+    let w = c.args.w in record { counters = ap (λ (n : Option Edition). meant_for n w) (sym c.in-None.is ∙ c.edition_of.ensures); count = counted }
