@@ -8,12 +8,14 @@ use Prim.Native.Nat.{ℕ, zero, suc}
 use Rattle.editions.specs.declared.Edition.{Edition}
 use Rattle.counters.specs.declared.Counters.{Counters}
 use Rattle.book.specs.declared.Said.{Said}
-use Rattle.book.specs.declared.Shown.{Shown}
+use Rattle.std.specs.Prelude.{Result, Ok, Err}
+use Rattle.answers.specs.declared.Refusal.{Refusal}
+use Rattle.show.specs.declared.RowShown.{RowShown}
 use Rattle.answers.specs.Answers.{Answer}
 use Rattle.answers.proofs.Promise.{one_number_each}
 use Rattle.rows.specs.declared.Listing.{Listing}
 use Rattle.book.specs.State.{State, lent, Outcome, leaving, Arrival, arrives}
-use Rattle.book.specs.Calls.{listed, delivered, shown}
+use Rattle.book.specs.Calls.{Shown, listed, delivered, row_told, shown}
 use contract.Lifetimes.{Lfts}
 use borrow.Fn.World.{ArgsD}
 use borrow.Fn.Kinds.{ended_of}
@@ -165,6 +167,13 @@ module _ (κs : DeliverLfts) (a : DeliverArgs κs) where
 
 -- ---- a row's reading
 
+-- what is told of a row is told by one result
+one_row : (r r' : Result RowShown Refusal) → row_told r ≡ row_told r' → r ≡ r'
+one_row (Ok w) (Ok w') e = ap (λ (x : Shown). Ok x.row) e
+one_row (Ok w) (Err f') e = let a : ◌≡◌ {A = Answer} (Ok tt) (Err f') = ap (λ (x : Shown). x.answer) e in cc
+one_row (Err f) (Ok w') e = let a : ◌≡◌ {A = Answer} (Err f) (Ok tt) = ap (λ (x : Shown). x.answer) e in cc
+one_row (Err f) (Err f') e = let a : ◌≡◌ {A = Answer} (Err f) (Err f') = ap (λ (x : Shown). x.answer) e in cc
+
 module _ (κs : RowLfts) (a : RowArgs κs) where
   abbrev pub read_from : State
   read_from = lent a.0 a.1.0.now a.1.1.0.now
@@ -172,10 +181,10 @@ module _ (κs : RowLfts) (a : RowArgs κs) where
   abbrev pub read_given : List ℕ
   read_given = a.1.1.1.0
 
-  pub row_one : (r r' : Shown) (s s' : RowExit κs)
+  pub row_one : (r r' : Result RowShown Refusal) (s s' : RowExit κs)
       → row_reads.Learnt κs a r s → row_reads.Learnt κs a r' s' → r ≡ r'
-  row_one r r' s s' h h' = h ∙ sym h'
+  row_one r r' s s' h h' = one_row r r' (h ∙ sym h')
 
   -- what a caller is told, and nothing else
-  pub row_says : (r : Shown) (s : RowExit κs) → row_reads.Learnt κs a r s ≡ (r ≡ shown read_from read_given)
+  pub row_says : (r : Result RowShown Refusal) (s : RowExit κs) → row_reads.Learnt κs a r s ≡ (row_told r ≡ shown read_from read_given)
   row_says r s = refl

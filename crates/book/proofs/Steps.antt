@@ -1,8 +1,9 @@
 -- From what each call works out, branch by branch, to what it promises.
 -- Assumes nothing.
-use Rattle.std.specs.Prelude.{None, Some}
+use Rattle.std.specs.Prelude.{Option, None, Some, is_some}
+use Rattle.std.specs.Option.{ok_or}
 use mathlib.Core.Path.{◌≡◌, refl, ap, sym, ◌∙◌}
-use mathlib.Core.Bool.{Bool, true, false, cond, not, ◌&&◌, ◌||◌}
+use mathlib.Core.Bool.{Bool, true, false, cond, not, ◌&&◌, ◌||◌, true≢false}
 use mathlib.Core.List.{List}
 use Prim.Native.Nat.{ℕ, ◌≤◌}
 use native.Mathlib.Omega.{arith}
@@ -11,6 +12,7 @@ use lib.Dec.{ltb, leb}
 use lib.ListN.{length}
 use Rattle.texts.specs.Text.{text}
 use Rattle.answers.specs.Answers.{Answer, number_of, answer_of}
+use Rattle.answers.specs.declared.Refusal.TheVariants.{NotListed}
 use Rattle.answers.specs.Cases.{Case, given}
 use Rattle.answers.proofs.Cases.{picked, picked_is}
 use Rattle.message.specs.Reader.{Reading}
@@ -28,19 +30,16 @@ use Rattle.counters.specs.declared.Counters.{Counters}
 use Rattle.counters.specs.Counting.{used_up, one_row_more, taken_by}
 use Rattle.sound.proofs.Sound.{sound_gives}
 use Rattle.keys.specs.Keys.{kind_in}
-use Rattle.table.specs.declared.Verdict.{Verdict}
 use Rattle.table.specs.Table.{is_found, is_listed}
-use Rattle.table.specs.Working.{judged_by}
+use Rattle.table.specs.Working.{Verdict, judged_by}
 use Rattle.table.proofs.Tables.{rows_full, judged_is, judged_row, judged_line, read_plain, Wanted, number_wanted}
 use Rattle.take.specs.Taking.{lines_by, reported_by, rows_by, index_of}
 use Rattle.show.specs.declared.RowShown.{RowShown}
 use Rattle.show.specs.Showing.{shown_of, nothing_shown}
-use Rattle.book.specs.declared.Located.{Located}
-use Rattle.book.specs.declared.Shown.{Shown}
 use Rattle.book.specs.State.{State, with_counters, with_rows, with_lines, Outcome, Arrival, arrives, edition_of, wanted_in, sheet_of}
 use Rattle.book.specs.State.{lines_in, basis_of, sound_in}
-use Rattle.book.specs.Calls.{close_top, list_table, list_cases, list_answer, listed, number_cases, reading_in, message_given}
-use Rattle.book.specs.Calls.{row_named, line_named, taking, delivered, row_cases, row_answer, row_found, located, shown}
+use Rattle.book.specs.Calls.{Located, Shown, close_top, list_table, list_cases, list_answer, listed, number_cases, reading_in, message_given}
+use Rattle.book.specs.Calls.{place_told, row_named, line_named, taking, delivered, row_cases, row_answer, row_found, located, shown}
 use Rattle.book.proofs.Demand1.{list_told, message_told, number_told, row_told, answer_content, answer_number, refused_keeps}
 
 -- ---- a record is its parts
@@ -89,9 +88,11 @@ module _ (s : State) (l : Listing) where
       list_late e = told 14 (rw (h, broken_is (text l.symbol) l.close close_top true k, ne_eqb (wanted_in s) 1 e))
 
       module _ (w : wanted_in s ≡ 1) where
-        pub list_there : (i : ℕ) → listing_of l.symbol (sheet_of s) ≡ Some i → answer_of 15 ≡ answer_of (list_answer s l)
+        pub list_there : (o : Option ℕ) → listing_of l.symbol (sheet_of s) ≡ o → is_some o ≡ true
+            → answer_of 15 ≡ answer_of (list_answer s l)
         unfolding list_table
-        list_there i e =
+        list_there None e t = absurd (true≢false (sym t))
+        list_there (Some i) e t =
             let f : is_listed l.symbol (sheet_of s) ≡ true = ap is_found e in
             told 15 (rw (h, broken_is (text l.symbol) l.close close_top true k, eq-eqb (wanted_in s) 1 w, f))
 
@@ -121,11 +122,11 @@ module _ (s : State) (l : Listing) where
 
     pub list_done : number_of a ≡ 0 → (c : Counters) (rows : List ℕ) → c ≡ one_row_more s.counters
         → rows ≡ with_row s.rows s.counters.rows l
-        → record { answer = 0; state = with_counters c (with_rows rows s) } ≡ listed s l
+        → record { answer = number_of a; state = with_counters c (with_rows rows s) } ≡ listed s l
     unfolding listed
     list_done z c rows f g =
         let t : list_answer s l ≡ 0 = sym answer_told ∙ z in
-        rw (t, f, g)
+        rw (z, t, f, g)
 
 -- ---- where no row and no line is asked for, none is acted on
 
@@ -274,6 +275,11 @@ module _ (s : State) (symbol : List ℕ) where
       → record { answer = answer_of 0; row = i } ≡ located s symbol
   unfolding located
   locate_there i h f = rw (row_picked, h, f)
+
+  -- what the search for a symbol says, with 7 for a symbol that it does not find
+  pub locate_by : sound_in s ≡ true → (f : Option ℕ) → listing_of symbol (sheet_of s) ≡ f → place_told (ok_or f NotListed) ≡ located s symbol
+  locate_by h None e = locate_none h e
+  locate_by h (Some i) e = locate_there i h e
 
   -- ---- a row read
 

@@ -1,8 +1,9 @@
 -- The promise of each call, for every state that is lent, every listing, arrival and symbol.
 -- Assumes nothing.
-use Rattle.std.specs.Prelude.{ℕ, List, [], ◌∷◌, ◌++◌, cond, not, ◌||◌, eqb, ltb, leb, length}
+use Rattle.std.specs.Prelude.{ℕ, List, [], ◌∷◌, ◌++◌, cond, not, ◌||◌, eqb, ltb, leb, length, Result, Ok, Err}
 use Rattle.texts.specs.Text.{text}
-use Rattle.answers.specs.Answers.{answer_of}
+use Rattle.answers.specs.declared.Refusal.{Refusal}
+use Rattle.answers.specs.Answers.{Answer, answer_of}
 use Rattle.answers.specs.Cases.{Case, says, given, in_book}
 use Rattle.records.specs.declared.Record.{Record}
 use Rattle.message.specs.Reader.{Reading, read_of}
@@ -16,8 +17,9 @@ use Rattle.keys.specs.Keys.{kind_in, old_key}
 use Rattle.table.specs.Table.{is_listed, number_table, content_table}
 use Rattle.take.specs.Taking.{lines_by, rows_by, index_of}
 use Rattle.show.specs.Showing.{shown_of, nothing_shown}
-use Rattle.book.specs.declared.Located.{Located}
-use Rattle.book.specs.declared.Shown.{Shown}
+use Rattle.show.specs.declared.RowShown.{RowShown}
+use Rattle.book.specs.declared.Said.{Said}
+use Rattle.counters.specs.declared.Counters.{Counters}
 use Rattle.book.specs.State.{State, with_counters, with_rows, with_lines, Outcome, Arrival, edition_of, wanted_in, sheet_of, lines_in}
 use Rattle.book.specs.State.{basis_of, sound_in}
 
@@ -92,6 +94,11 @@ taking s r =
 abbrev pub spent : State → State
 spent s = with_counters (used_up s.counters) s
 
+-- what a message that bears the wanted number is told: the counters after it, or what refused it
+abbrev pub used_told : Counters → Result Counters Refusal → Said
+used_told c (Ok after) = record { answer = Ok tt; counters = after }
+used_told c (Err refusal) = record { answer = Err refusal; counters = used_up c }
+
 -- what a case of the table leaves: taken, or the number used up, or nothing
 abbrev pub after : State → Record → Case → State
 after s r g = cond (eqb g.number 0) (taking s r) (cond g.uses (spent s) s)
@@ -118,8 +125,25 @@ abbrev pub row_found : State → List ℕ → ℕ
 row_found s symbol = index_of (listing_of symbol (sheet_of s))
 
 -- where the row is; 0, and unread, where it is refused
+pub record Located : Type 0 where
+  pub answer : Answer
+  pub row : ℕ
+
+abbrev pub place_told : Result ℕ Refusal → Located
+place_told (Ok i) = record { answer = Ok tt; row = i }
+place_told (Err refusal) = record { answer = Err refusal; row = 0 }
+
 unfoldable pub located : State → List ℕ → Located
 located s symbol = record { answer = answer_of (row_answer s symbol); row = cond (eqb (row_answer s symbol) 0) (row_found s symbol) 0 }
+
+-- the row as it is read; zeros and absent figures where it is refused
+pub record Shown : Type 0 where
+  pub answer : Answer
+  pub row : RowShown
+
+abbrev pub row_told : Result RowShown Refusal → Shown
+row_told (Ok row) = record { answer = Ok tt; row = row }
+row_told (Err refusal) = record { answer = Err refusal; row = nothing_shown }
 
 -- the first row of the symbol, with the figures of its live lines
 unfoldable pub shown : State → List ℕ → Shown

@@ -7,9 +7,10 @@ ghost use Rattle.answers.specs.Answers.{answer_of};
 ghost use Rattle.answers.specs.Cases.{given};
 ghost use Rattle.counters.specs.Counting.{fresh_counters};
 ghost use Rattle.book.specs.State.{lent, leaving, arrives};
-ghost use Rattle.book.specs.Calls.{list_answer, listed, number_cases, delivered, located, shown};
+ghost use Rattle.book.specs.Calls.{place_told, located, row_told, shown};
+ghost use Rattle.book.specs.Calls.{list_answer, listed, number_cases, used_told, delivered};
 
-use answers::Answer;
+use answers::Refusal;
 use counters::Counters;
 use editions::Edition;
 use kinds::kind_of;
@@ -23,22 +24,8 @@ use take::{take_lines, take_rows};
 // The answer to a listing or a message, and the counters that follow from it.
 #[derive(Clone, Copy)]
 pub struct Said {
-    pub answer: Answer,
+    pub answer: Result<(), Refusal>,
     pub counters: Counters,
-}
-
-// The answer to the reading of a row, and the row: of zeros and absent figures where the answer is not `Done`.
-#[derive(Clone, Copy)]
-pub struct Shown {
-    pub answer: Answer,
-    pub row: RowShown,
-}
-
-// Which row of the room a symbol is, if it is listed.
-#[derive(Clone, Copy)]
-struct Located {
-    answer: Answer,
-    row: usize,
 }
 
 // A fresh book of an edition. Starting one cannot be refused and touches no lent byte.
@@ -48,30 +35,27 @@ pub fn fresh(edition: Edition) -> Counters
     counters::fresh(edition)
 }
 
-// 13 to 17 or `Done`.
-fn judge_listing(c: Counters, rows: &[u8], lines: &[u8], l: Listing) -> Answer
+// 13 to 17 of a listing.
+fn judge_listing(c: Counters, rows: &[u8], lines: &[u8], l: Listing) -> Result<(), Refusal>
     ensures { result ≡ answer_of (list_answer (lent c rows.now lines.now) l) }
 {
     if !is_sound(c, rows.len(), lines.len()) {
-        return Answer::Unsound;
+        return Err(Refusal::Unsound);
     }
     let symbol = l.symbol;
     if !(texts::is_text(&symbol) & (l.close <= PRICE_TOP)) {
-        return Answer::ListingBroken;
+        return Err(Refusal::ListingBroken);
     }
     if c.wanted != 1 {
-        return Answer::ListingLate;
+        return Err(Refusal::ListingLate);
     }
-    match rows::find(rows, c.rows, symbol) {
-        None => {
-            if rows::limit(rows.len()) <= c.rows {
-                Answer::RowsFull
-            } else {
-                Answer::Done
-            }
-        }
-        Some(i) => Answer::ListedAlready,
+    if rows::find(rows, c.rows, symbol).is_some() {
+        return Err(Refusal::ListedAlready);
     }
+    if rows::limit(rows.len()) <= c.rows {
+        return Err(Refusal::RowsFull);
+    }
+    Ok(())
 }
 
 // Lists a symbol with its close: a row added at the end.
@@ -79,57 +63,69 @@ pub fn list(c: Counters, rows: &mut [u8], lines: &[u8], l: Listing) -> Said
     ensures { leaving result rows.new lines.now
         ≡ listed (lent c rows.old lines.now) l }
 {
-    let a = judge_listing(c, rows, lines, l);
-    if answers::number(a) != 0 {
+    let answer = judge_listing(c, rows, lines, l);
+    if answer.is_err() {
         return Said {
-            answer: a,
+            answer,
             counters: c,
         };
     }
     rows::put(rows, c.rows, l);
     Said {
-        answer: Answer::Done,
+        answer,
         counters: c.add_row(),
     }
 }
 
-// A message that bears the wanted number, read by the book's edition and by no other: taken, or the number used up.
+// Takes a message that bears the wanted number, read by the book's edition and by no other: the counters after it, or
+// 4 to 12 and nothing changed.
+fn take_message(
+    c: Counters,
+    rows: &mut [u8],
+    lines: &mut [u8],
+    message: &[u8],
+) -> Result<Counters, Refusal>
+    requires { (given (number_cases (lent c rows.old lines.old) c.wanted)).number ≡ 0 }
+    ensures { leaving (used_told c result) rows.new lines.new
+        ≡ delivered (lent c rows.old lines.old) (arrives c.wanted message.now) }
+{
+    let edition = c.start.edition;
+    let q = message::read(edition, message);
+    let r = q?;
+    let kind = kind_of(r.letter);
+    let named = judge(c.phase, rows, c.rows, lines, c.lines, kind, q)?;
+    take_lines(lines, c.lines, c.wanted as u32, kind, r, named.line);
+    take_rows(rows, edition, kind, r, named.row);
+    Ok(c.take(kind, r.event))
+}
+
+// A message that bears the wanted number: taken, or the number used up.
 fn use_number(c: Counters, rows: &mut [u8], lines: &mut [u8], message: &[u8]) -> Said
     requires { (given (number_cases (lent c rows.old lines.old) c.wanted)).number ≡ 0 }
     ensures { leaving result rows.new lines.new
         ≡ delivered (lent c rows.old lines.old) (arrives c.wanted message.now) }
 {
-    let start = c.start;
-    let edition = start.edition;
-    let q = message::read(edition, message);
-    let r = q.found;
-    let kind = kind_of(r.letter);
-    let v = judge(c.phase, rows, c.rows, lines, c.lines, kind, q);
-    let by_content = v.answer;
-    if answers::number(by_content) != 0 {
-        return Said {
-            answer: by_content,
+    match take_message(c, rows, lines, message) {
+        Ok(counters) => Said {
+            answer: Ok(()),
+            counters,
+        },
+        Err(refusal) => Said {
+            answer: Err(refusal),
             counters: c.use_up(),
-        };
-    }
-    take_lines(lines, c.lines, c.wanted as u32, kind, r, v.line);
-    take_rows(rows, edition, kind, r, v.row);
-    Said {
-        answer: Answer::Done,
-        counters: c.take(kind, r.event),
+        },
     }
 }
 
-// 17, 1, 2, 3, or `Done` for the wanted number.
-fn judge_arrival(c: Counters, rows: &[u8], lines: &[u8], number: u64) -> Answer
+// 17, 1, 2 or 3 of a number that is not the wanted one.
+fn judge_arrival(c: Counters, rows: &[u8], lines: &[u8], number: u64) -> Result<(), Refusal>
     ensures { result
         ≡ answer_of (given (number_cases (lent c rows.now lines.now) number)).number }
 {
-    if is_sound(c, rows.len(), lines.len()) {
-        judge_number(c.wanted, number)
-    } else {
-        Answer::Unsound
+    if !is_sound(c, rows.len(), lines.len()) {
+        return Err(Refusal::Unsound);
     }
+    judge_number(c.wanted, number)
 }
 
 // Delivers a message under its number.
@@ -138,7 +134,7 @@ pub fn deliver(c: Counters, rows: &mut [u8], lines: &mut [u8], number: u64, mess
         ≡ delivered (lent c rows.old lines.old) (arrives number message.now) }
 {
     let by_number = judge_arrival(c, rows, lines, number);
-    if answers::number(by_number) != 0 {
+    if by_number.is_err() {
         return Said {
             answer: by_number,
             counters: c,
@@ -147,49 +143,22 @@ pub fn deliver(c: Counters, rows: &mut [u8], lines: &mut [u8], number: u64, mess
     use_number(c, rows, lines, message)
 }
 
-// 17, 7, or which row the symbol is.
-fn find_row(c: Counters, rows: &[u8], lines: &[u8], symbol: [u8; 8]) -> Located
-    ensures { result ≡ located (lent c rows.now lines.now) symbol }
+// 17, 7, or which row of the room the symbol is.
+fn find_row(c: Counters, rows: &[u8], lines: &[u8], symbol: [u8; 8]) -> Result<usize, Refusal>
+    ensures { place_told result ≡ located (lent c rows.now lines.now) symbol }
 {
-    if is_sound(c, rows.len(), lines.len()) {
-        match rows::find(rows, c.rows, symbol) {
-            None => {
-                Located {
-                    answer: Answer::NotListed,
-                    row: 0,
-                }
-            }
-            Some(i) => {
-                Located {
-                    answer: Answer::Done,
-                    row: i,
-                }
-            }
-        }
-    } else {
-        Located {
-            answer: Answer::Unsound,
-            row: 0,
-        }
+    if !is_sound(c, rows.len(), lines.len()) {
+        return Err(Refusal::Unsound);
     }
+    rows::find(rows, c.rows, symbol).ok_or(Refusal::NotListed)
 }
 
-// Reads the row of a symbol.
-pub fn row(c: Counters, rows: &[u8], lines: &[u8], symbol: [u8; 8]) -> Shown
-    ensures { result ≡ shown (lent c rows.now lines.now) symbol }
+// Reads the row of a symbol, or says 7 or 17.
+pub fn row(c: Counters, rows: &[u8], lines: &[u8], symbol: [u8; 8]) -> Result<RowShown, Refusal>
+    ensures { row_told result ≡ shown (lent c rows.now lines.now) symbol }
 {
-    let p = find_row(c, rows, lines, symbol);
-    let a = p.answer;
-    if answers::number(a) != 0 {
-        return Shown {
-            answer: a,
-            row: show::nothing(),
-        };
-    }
-    let kept = rows::get(rows, p.row);
+    let i = find_row(c, rows, lines, symbol)?;
+    let kept = rows::get(rows, i);
     let figures = walk::walk(lines, c.lines, symbol);
-    Shown {
-        answer: Answer::Done,
-        row: show::shown(kept, figures),
-    }
+    Ok(show::shown(kept, figures))
 }

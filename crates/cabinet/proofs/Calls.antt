@@ -11,9 +11,8 @@ use Rattle.counters.specs.declared.Counters.{Counters}
 use Rattle.rows.specs.declared.Listing.{Listing}
 use Rattle.show.specs.Showing.{nothing_shown}
 use Rattle.book.specs.declared.Said.{Said}
-use Rattle.book.specs.declared.Shown.{Shown}
 use Rattle.book.specs.State.{State, lent, Outcome, leaving, Arrival}
-use Rattle.book.specs.Calls.{listed, delivered, shown}
+use Rattle.book.specs.Calls.{Shown, listed, delivered, shown}
 use Rattle.words.specs.Words.{counters_of, counter_words, row_count, row_words}
 use Rattle.words.proofs.Again.{counters_again}
 use Rattle.cabinet.specs.Crossing.{Held, holding, held_of, crossed, crossing, called_on, listed_from, delivered_from, shown_on, shown_from}

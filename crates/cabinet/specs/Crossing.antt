@@ -12,9 +12,8 @@ use Rattle.counters.specs.declared.Counters.{Counters}
 use Rattle.rows.specs.declared.Listing.{Listing}
 use Rattle.rows.specs.Changed.{ListingFits}
 use Rattle.show.specs.Showing.{nothing_shown}
-use Rattle.book.specs.declared.Shown.{Shown}
 use Rattle.book.specs.State.{State, lent, Outcome, Arrival, sound_in}
-use Rattle.book.specs.Calls.{listed, delivered, shown}
+use Rattle.book.specs.Calls.{Shown, listed, delivered, shown}
 use Rattle.words.specs.Words.{counter_count, counter_words, counters_of}
 use Rattle.editions.specs.declared.Edition.{Edition}
 

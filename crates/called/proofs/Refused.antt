@@ -19,9 +19,8 @@ use Rattle.counters.specs.Counting.{last_number, with_wanted}
 use Rattle.editions.specs.declared.Edition.{Edition}
 use Rattle.editions.specs.Editions.{reports}
 use Rattle.message.specs.Obeying.{Obeys}
-use Rattle.book.specs.declared.Shown.{Shown}
 use Rattle.book.specs.State.{State, lent, Outcome, Arrival}
-use Rattle.book.specs.Calls.{listed, delivered}
+use Rattle.book.specs.Calls.{Shown, listed, delivered}
 use Rattle.upheld.proofs.EditionStays.{row_keeps_reported}
 use Rattle.upheld.proofs.OtherEdition.{other_edition_refused}
 use Rattle.book.proofs.Demand1.{refused_keeps}

@@ -13,9 +13,8 @@ use Rattle.counters.specs.declared.Start.{Start}
 use Rattle.counters.specs.declared.Counters.{Counters}
 use Rattle.records.specs.Packed.{record_length, record_of, record_bytes}
 use Rattle.records.proofs.Stores.{no_bytes}
-use Rattle.book.specs.declared.Shown.{Shown}
 use Rattle.book.specs.State.{State, Outcome}
-use Rattle.book.specs.Calls.{listed, delivered}
+use Rattle.book.specs.Calls.{Shown, listed, delivered}
 use Rattle.upheld.proofs.EditionStays as Inside
 use Rattle.words.specs.Words.{counter_words, edition_at, counters_of, row_count, row_words}
 use Rattle.words.proofs.Again.{no_book, fresh_unknown, edition_word}

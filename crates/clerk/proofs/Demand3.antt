@@ -25,9 +25,8 @@ use Rattle.counters.specs.Counting.{last_number}
 use Rattle.table.proofs.Tables.{Wanted}
 use Rattle.show.specs.Showing.{nothing_shown}
 use Rattle.book.specs.declared.Said.{Said}
-use Rattle.book.specs.declared.Shown.{Shown}
 use Rattle.book.specs.State.{State, with_counters, Outcome, Arrival, edition_of, wanted_in, lines_in}
-use Rattle.book.specs.Calls.{listed, delivered, shown}
+use Rattle.book.specs.Calls.{Shown, listed, delivered, shown}
 use Rattle.book.proofs.Demand1.{message_told, answer_taken, refused_keeps}
 use Rattle.book.proofs.Promise.{ListLfts, ListArgs, ListExit, DeliverLfts, DeliverArgs, DeliverExit, RowLfts, RowArgs, RowExit}
 use Rattle.book.proofs.Promise.{list_from, list_given, list_left, deliver_from, deliver_given, deliver_left, read_from, read_given}

@@ -21,9 +21,8 @@ use Rattle.walk.specs.Meaning.{Are}
 use Rattle.show.specs.declared.RowShown.{RowShown}
 use Rattle.show.specs.Showing.{shown_of, nothing_shown}
 use Rattle.table.specs.Table.{is_listed}
-use Rattle.book.specs.declared.Shown.{Shown}
 use Rattle.book.specs.State.{State, rows_in, sheet_of, lines_in, sound_in}
-use Rattle.book.specs.Calls.{row_table, row_answer, shown}
+use Rattle.book.specs.Calls.{Shown, row_table, row_answer, shown}
 use Rattle.book.proofs.Demand1.{refused_keeps, row_told}
 use Rattle.upheld.proofs.Touches.{RowReads, row_reads}
 use Rattle.clerk.specs.Clerk.{is_in, symbols_in, Taken, trades_of, row_of, shown_by}

@@ -16,9 +16,8 @@ use Rattle.lines.specs.Lines.{line_limit}
 use Rattle.rows.specs.declared.Listing.{Listing}
 use Rattle.rows.specs.Rows.{row_limit}
 use Rattle.counters.specs.Counting.{last_number, fresh_counters}
-use Rattle.book.specs.declared.Shown.{Shown}
 use Rattle.book.specs.State.{State, lent}
-use Rattle.book.specs.Calls.{listed, delivered, shown}
+use Rattle.book.specs.Calls.{Shown, listed, delivered, shown}
 use Rattle.words.specs.Words.{counter_words, fresh_words, row_count, row_words}
 use Rattle.words.proofs.Again.{counters_again, fresh_known}
 use Rattle.clerk.specs.Steps.{Book, book_of}

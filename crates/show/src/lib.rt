@@ -49,8 +49,9 @@ pub fn shown(r: Row, f: Figures) -> RowShown
     ensures { result ≡ Showing.shown_of r f }
 {
     let last = last_of(f.last);
+    let symbol = r.listing.symbol;
     RowShown {
-        symbol: r.listing.symbol,
+        symbol,
         close: r.listing.close,
         last,
         high: f.high,

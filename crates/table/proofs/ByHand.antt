@@ -13,7 +13,6 @@ use Rattle.kinds.specs.Kinds as Kinds
 use Rattle.keys.specs.Keys as Keys
 use Rattle.cells.specs.Search as Search
 use Rattle.records.specs.declared.Sale.{Sale}
-use Rattle.records.specs.declared.Record.{Record}
 use Rattle.message.specs.Reader.{Reading}
 use Rattle.lines.specs.declared.Line.{Line}
 use Rattle.table.specs.Table.{Basis, searched, number_table, content_table}

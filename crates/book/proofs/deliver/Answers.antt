@@ -1,10 +1,13 @@
 -- `book::deliver` meets its contract.
 -- Assumes nothing.
-use mathlib.Core.Path.{sym, ◌∙◌}
-use Rattle.book.specs.State.{State, lent}
-use Rattle.book.proofs.Steps.{early_left, wanted_number, wanted_left}
+use Rattle.std.specs.Prelude.{is_err}
+use mathlib.Core.Path.{◌≡◌}
+use mathlib.Core.Bool.{true, false}
 use borrow.Author.Rules.{rules}
 use Rattle.octets.specs.Run.{Bytes}
+use Rattle.answers.proofs.Promise.{done_number, not_done}
+use Rattle.book.specs.State.{State, lent}
+use Rattle.book.proofs.Steps.{early_left, wanted_number, wanted_left}
 use Rattle.book.proofs.deliver.Goals as goal
 use Rattle.book.proofs.deliver.Goals.{After-judge_arrival-by_number}
 
@@ -12,17 +15,18 @@ use Rattle.book.proofs.deliver.Goals.{After-judge_arrival-by_number}
 pub entered : (c : After-judge_arrival-by_number) → Bytes c.args.rows.now × Bytes c.args.lines.now × Bytes c.args.message.now
 entered c = (λ i. search rules, λ i. search rules, λ i. (c.type_inv.message i).fits)
 
-pub returns-then-number-ne0 : goal.returns-then-number-ne0
-returns-then-number-ne0 c = early_left _ _ _ _ c.judge_arrival-by_number.ensures
-    (λ e. c.if-number-ne0.true (c.number.ensures ∙ e))
+pub returns-then-is_err : goal.returns-then-is_err
+returns-then-is_err c =
+    let refused : is_err c.judge_arrival-by_number.result ≡ true = search rules in
+    early_left _ _ _ _ c.judge_arrival-by_number.ensures (not_done _ refused)
 
 pub use_number-requires : goal.use_number-requires
 use_number-requires c =
     let state : State = lent c.args.c c.args.rows.now c.args.lines.now in
-    let s = c in
-    wanted_number state s.args.number s.args.message.now _ c.judge_arrival-by_number.ensures
-    (sym c.number.ensures ∙ c.if-number-ne0.false)
+    let done : is_err c.judge_arrival-by_number.result ≡ false = search rules in
+    wanted_number state c.args.number c.args.message.now _ c.judge_arrival-by_number.ensures (done_number _ done)
 
 pub returns : goal.returns
-returns c = wanted_left _ _ _ _ c.judge_arrival-by_number.ensures
-    (sym c.number.ensures ∙ c.if-number-ne0.false) _ c.use_number.ensures
+returns c =
+    let done : is_err c.judge_arrival-by_number.result ≡ false = search rules in
+    wanted_left _ _ _ _ c.judge_arrival-by_number.ensures (done_number _ done) _ c.use_number.ensures

@@ -1,16 +1,14 @@
 -- `book::find_row` meets its contract.
 -- Assumes nothing.
-use mathlib.Core.Path.{sym, ◌∙◌}
-use Rattle.book.proofs.Steps.{locate_none, locate_there, locate_unsound}
+use mathlib.Core.Path.{ap, sym, ◌∙◌}
+use Rattle.book.specs.Calls.{place_told}
+use Rattle.book.proofs.Steps.{locate_by, locate_unsound}
 use Rattle.book.proofs.find_row.Goals as goal
 
-pub returns-in-None : goal.returns-in-None
-returns-in-None c = locate_none _ _ (sym c.is_sound.ensures ∙ c.if-is_sound.true)
-    (sym c.find.ensures ∙ c.in-None.is)
+pub returns-then-not-is_sound : goal.returns-then-not-is_sound
+returns-then-not-is_sound c = locate_unsound _ _ (sym c.is_sound.ensures ∙ c.if-not-is_sound.true)
 
-pub returns-in-Some : goal.returns-in-Some
-returns-in-Some c = locate_there _ _ _ (sym c.is_sound.ensures ∙ c.if-is_sound.true)
-    (sym c.find.ensures ∙ c.in-Some.is)
-
-pub returns-else-is_sound : goal.returns-else-is_sound
-returns-else-is_sound c = locate_unsound _ _ (sym c.is_sound.ensures ∙ c.if-is_sound.false)
+pub returns : goal.returns
+returns c =
+    ap place_told (c.ok_or.ensures.value)
+    ∙ locate_by _ _ (sym c.is_sound.ensures ∙ c.if-not-is_sound.false) _ (sym c.find.ensures)

@@ -1,7 +1,10 @@
 -- `book::list` meets its contract.
 -- Assumes nothing.
 -- a listed symbol is eight bytes, and its close fits four
-use mathlib.Core.Path.{sym, ◌∙◌}
+use Rattle.std.specs.Prelude.{is_err}
+use mathlib.Core.Path.{◌≡◌}
+use mathlib.Core.Bool.{true, false}
+use Rattle.answers.proofs.Promise.{done_number, not_done}
 use Rattle.book.proofs.Steps.{list_refused, list_done}
 use borrow.Author.Rules.{rules}
 use Rattle.rows.specs.Changed.{ListingFits}
@@ -12,9 +15,12 @@ use Rattle.book.proofs.list.Goals.{Start}
 pub entered : (c : Start) → ListingFits c.args.l
 entered c = record { symbol = search rules; close = search rules }
 
-pub returns-then-number-ne0 : goal.returns-then-number-ne0
-returns-then-number-ne0 c = list_refused _ _ _ c.judge_listing-a.ensures (λ e. c.if-number-ne0.true (c.number.ensures ∙ e))
+pub returns-then-is_err : goal.returns-then-is_err
+returns-then-is_err c =
+    let refused : is_err c.judge_listing-answer.result ≡ true = search rules in
+    list_refused _ _ _ c.judge_listing-answer.ensures (not_done _ refused)
 
 pub returns : goal.returns
-returns c = list_done _ _ _ c.judge_listing-a.ensures
-    (sym c.number.ensures ∙ c.if-number-ne0.false) _ _ c.add_row.ensures c.put.ensures
+returns c =
+    let done : is_err c.judge_listing-answer.result ≡ false = search rules in
+    list_done _ _ _ c.judge_listing-answer.ensures (done_number _ done) _ _ c.add_row.ensures c.put.ensures
