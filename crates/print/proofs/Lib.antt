@@ -1,6 +1,5 @@
 pub mod Padding
 pub mod Laws
-pub mod Fitting
 pub mod Longest
 pub mod Samples
 pub mod Promise

@@ -1,7 +1,10 @@
-// The figures of a row, each behind one space, and named counts.
+// The figures of a row, each behind one space, and named counts. A clause `fits` says what the type says of a figure that
+// came in.
 ghost use Rattle.std.specs.Prelude.{◌≤◌, ◌∷◌, ◌++◌, length};
 ghost use Rattle.decimal.specs.Decimal.{decimal};
 ghost use Rattle.print.specs.Texts.{absent_text, price_text, net_text, count_text, reported_text};
+ghost use Rattle.show.specs.Fits.{NetFits};
+ghost use Rattle.print.specs.Fits.{PriceFits, ReportedFits};
 ghost use Rattle.print.specs.Put.{Put};
 
 use octets::run::paste;
@@ -28,7 +31,8 @@ fn put_absent(out: &mut [u8], at: usize) -> usize
 
 fn put_price(out: &mut [u8], at: usize, p: Option<u32>) -> usize
     requires { at ≤ 800 }
-    ensures { Put 40 out.old at (32 ∷ price_text p) out.new result }
+    ensures put { Put 40 out.old at (32 ∷ price_text p) out.new result }
+    ensures fits { PriceFits p }
 {
     match p {
         None => put_absent(out, at),
@@ -40,10 +44,17 @@ fn put_price(out: &mut [u8], at: usize, p: Option<u32>) -> usize
 }
 
 // Last, high and low.
-pub(crate) fn put_prices(out: &mut [u8], at: usize, last: Option<u32>, high: Option<u32>, low: Option<u32>) -> usize
+pub(crate) fn put_prices(
+    out: &mut [u8],
+    at: usize,
+    last: Option<u32>,
+    high: Option<u32>,
+    low: Option<u32>,
+) -> usize
     requires { at ≤ 500 }
-    ensures { Put 120 out.old at
+    ensures put { Put 120 out.old at
         ((32 ∷ price_text last) ++ ((32 ∷ price_text high) ++ (32 ∷ price_text low))) out.new result }
+    ensures fits { PriceFits last × (PriceFits high × PriceFits low) }
 {
     let a = put_price(out, at, last);
     let b = put_price(out, a, high);
@@ -52,7 +63,8 @@ pub(crate) fn put_prices(out: &mut [u8], at: usize, last: Option<u32>, high: Opt
 
 pub(crate) fn put_net(out: &mut [u8], at: usize, n: Option<i64>) -> usize
     requires { at ≤ 800 }
-    ensures { Put 40 out.old at (32 ∷ net_text n) out.new result }
+    ensures put { Put 40 out.old at (32 ∷ net_text n) out.new result }
+    ensures fits { NetFits n }
 {
     match n {
         None => put_absent(out, at),
@@ -65,7 +77,8 @@ pub(crate) fn put_net(out: &mut [u8], at: usize, n: Option<i64>) -> usize
 
 fn put_reported(out: &mut [u8], at: usize, r: Option<u64>) -> usize
     requires { at ≤ 800 }
-    ensures { Put 40 out.old at (32 ∷ reported_text r) out.new result }
+    ensures put { Put 40 out.old at (32 ∷ reported_text r) out.new result }
+    ensures fits { ReportedFits r }
 {
     match r {
         None => put_absent(out, at),
@@ -82,8 +95,9 @@ pub(crate) fn put_counts(
     reported: Option<u64>,
 ) -> usize
     requires { at ≤ 500 }
-    ensures { Put 120 out.old at
+    ensures put { Put 120 out.old at
         ((32 ∷ count_text volume) ++ ((32 ∷ count_text count) ++ (32 ∷ reported_text reported))) out.new result }
+    ensures fits { ReportedFits reported }
 {
     let a = put_named(out, at, b" ", volume);
     let b = put_named(out, a, b" ", count);

@@ -30,15 +30,10 @@ pub fn row(shown: RowShown, out: &mut [u8]) -> usize
     ensures count { result ≡ length (row_text shown) }
 {
     let symbol = shown.symbol;
-    let last = shown.last;
-    let high = shown.high;
-    let low = shown.low;
-    let net = shown.net;
-    let reported = shown.reported;
     let a = symbols::put_symbol(out, 0, symbol);
-    let b = columns::put_prices(out, a, last, high, low);
-    let c = columns::put_net(out, b, net);
-    let d = columns::put_counts(out, c, shown.volume, shown.count, reported);
+    let b = columns::put_prices(out, a, shown.last, shown.high, shown.low);
+    let c = columns::put_net(out, b, shown.net);
+    let d = columns::put_counts(out, c, shown.volume, shown.count, shown.reported);
     put_byte(out, d, b'\n');
     d + 1
 }

@@ -9,14 +9,12 @@ use octets::run::paste;
 fn unpadded(s: &[u8]) -> usize
     ensures { result ≡ length (symbol_text s.now) }
 {
-    let mut k: usize = s.len();
-    while 0 < k {
-        if s[k - 1] != b' ' {
-            return k;
+    for k in (0..s.len()).rev() {
+        if s[k] != b' ' {
+            return k + 1;
         }
-        k -= 1;
     }
-    k
+    0
 }
 
 pub(crate) fn put_symbol(out: &mut [u8], at: usize, symbol: [u8; 8]) -> usize

@@ -13,7 +13,7 @@ use Rattle.editions.specs.Editions.{edition_number, edition_named}
 use Rattle.editions.proofs.Promise.{edition_again, number_again}
 use Rattle.counters.specs.declared.Counters.{Counters}
 use Rattle.counters.specs.Counting.{fresh_counters}
-use Rattle.words.specs.Words.{counter_count, counter_words, edition_at, counters_for, meant_for, counters_of, fresh_words}
+use Rattle.words.specs.Words.{counter_count, counter_words, edition_at, meant_for, counters_of, fresh_words}
 
 -- the words of counters are that book's
 pub counters_again : (c : Counters) → counters_of (counter_words c) ≡ Some c

@@ -14,7 +14,7 @@ use Rattle.numbers.specs.Number.{be, digits}
 use Rattle.numbers.proofs.Trips.{digits_part}
 use Rattle.octets.proofs.Trips.{whole}
 use Rattle.show.specs.declared.RowShown.{RowShown}
-use Rattle.words.specs.Words.{price_mark, price_word, signed_word, net_mark, net_word, reported_mark, reported_word, row_words}
+use Rattle.words.specs.Words.{figure_mark, figure_word, signed_word, net_word, row_words}
 use Rattle.show.specs.Fits.{NetFits}
 use Rattle.words.specs.Fits.{RowFits}
 
@@ -29,7 +29,7 @@ symbol_back xs e b =
 pub symbol_told : (xs ys : List ℕ) → length xs ≡ 8 → Bytes xs → length ys ≡ 8 → Bytes ys → be xs ≡ be ys → xs ≡ ys
 symbol_told xs ys e b f c q = sym (symbol_back xs e b) ∙ ap (digits 8) q ∙ symbol_back ys f c
 
-pub price_told : (p q : Option ℕ) → price_mark p ≡ price_mark q → price_word p ≡ price_word q → p ≡ q
+pub price_told : (p q : Option ℕ) → figure_mark p ≡ figure_mark q → figure_word p ≡ figure_word q → p ≡ q
 price_told None None m w = refl
 price_told None (Some y) m w = absurd (omega arith)
 price_told (Some x) None m w = absurd (omega arith)
@@ -41,7 +41,7 @@ signed_told (pos a) (negsuc b) h k e = absurd (omega arith)
 signed_told (negsuc a) (pos b) h k e = absurd (omega arith)
 signed_told (negsuc a) (negsuc b) h k e = let f : a ≡ b = omega arith in ap negsuc f
 
-pub net_told : (n o : Option ℤ) → NetFits n → NetFits o → net_mark n ≡ net_mark o → net_word n ≡ net_word o → n ≡ o
+pub net_told : (n o : Option ℤ) → NetFits n → NetFits o → figure_mark n ≡ figure_mark o → net_word n ≡ net_word o → n ≡ o
 net_told None None h k m w = refl
 net_told None (Some y) h k m w = absurd (omega arith)
 net_told (Some x) None h k m w = absurd (omega arith)
@@ -53,7 +53,7 @@ agrees_told true false e = absurd (omega arith)
 agrees_told false true e = absurd (omega arith)
 agrees_told false false e = refl
 
-pub reported_told : (r o : Option ℕ) → reported_mark r ≡ reported_mark o → reported_word r ≡ reported_word o → r ≡ o
+pub reported_told : (r o : Option ℕ) → figure_mark r ≡ figure_mark o → figure_word r ≡ figure_word o → r ≡ o
 reported_told None None m w = refl
 reported_told None (Some y) m w = absurd (omega arith)
 reported_told (Some x) None m w = absurd (omega arith)

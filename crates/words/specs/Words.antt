@@ -1,6 +1,7 @@
 -- How counters and rows travel to and from a program of another language: which word is which.
 -- Assumes nothing.
 use Rattle.std.specs.Prelude.{ℕ, ◌-◌, List, [], ◌∷◌, cond, ℤ, pos, negsuc, length, get_or, set, None, Option, Some}
+use Rattle.std.specs.Option.{unwrap_or}
 use Rattle.numbers.specs.Number.{be}
 use Rattle.editions.specs.declared.Edition.{Edition}
 use Rattle.editions.specs.declared.Edition.TheVariants.{NlsPlus}
@@ -49,34 +50,21 @@ counter_count = length (counter_words (fresh_counters NlsPlus))
 
 -- ---- a row; a figure that may be absent is a mark, 1 where it is there, and the figure, 0 where it is not
 
-abbrev pub price_mark : Option ℕ → ℕ
-price_mark None = 0
-price_mark (Some p) = 1
+abbrev pub figure_mark : {A : Type 0} → Option A → ℕ
+figure_mark None = 0
+figure_mark (Some x) = 1
 
-abbrev pub price_word : Option ℕ → ℕ
-price_word None = 0
-price_word (Some p) = p
+abbrev pub figure_word : Option ℕ → ℕ
+figure_word figure = unwrap_or figure 0
 
 -- two's complement in 64 bits
 abbrev pub signed_word : ℤ → ℕ
 signed_word (pos n) = n
 signed_word (negsuc n) = 18446744073709551615 - n
 
-abbrev pub net_mark : Option ℤ → ℕ
-net_mark None = 0
-net_mark (Some x) = 1
-
 abbrev pub net_word : Option ℤ → ℕ
 net_word None = 0
 net_word (Some x) = signed_word x
-
-abbrev pub reported_mark : Option ℕ → ℕ
-reported_mark None = 0
-reported_mark (Some v) = 1
-
-abbrev pub reported_word : Option ℕ → ℕ
-reported_word None = 0
-reported_word (Some v) = v
 
 -- 0 the symbol's eight bytes as one number, 1 close, 2 3 last, 4 5 high, 6 7 low, 8 9 net change, 10 volume, 11 count, 12 agrees,
 -- 13 14 reported consolidated volume
@@ -84,19 +72,19 @@ unfoldable pub row_words : RowShown → List ℕ
 row_words r =
     be r.symbol
     ∷ r.close
-    ∷ price_mark r.last
-    ∷ price_word r.last
-    ∷ price_mark r.high
-    ∷ price_word r.high
-    ∷ price_mark r.low
-    ∷ price_word r.low
-    ∷ net_mark r.net
+    ∷ figure_mark r.last
+    ∷ figure_word r.last
+    ∷ figure_mark r.high
+    ∷ figure_word r.high
+    ∷ figure_mark r.low
+    ∷ figure_word r.low
+    ∷ figure_mark r.net
     ∷ net_word r.net
     ∷ r.volume
     ∷ r.count
     ∷ cond r.agrees 1 0
-    ∷ reported_mark r.reported
-    ∷ reported_word r.reported
+    ∷ figure_mark r.reported
+    ∷ figure_word r.reported
     ∷ []
 
 -- how many they are

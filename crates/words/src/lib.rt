@@ -2,7 +2,8 @@
 // `specs/Words.antt`; the numbers here are held to it.
 #![tactic(auto)]
 
-ghost use Rattle.std.specs.Prelude.{◌≡◌, cond, length};
+ghost use Rattle.std.specs.Prelude.{◌≡◌, length};
+ghost use Rattle.show.specs.Fits.{NetFits};
 ghost use Rattle.words.specs.Words as W;
 
 use counters::{Counters, Start};
@@ -23,26 +24,22 @@ pub fn counters(w: [u64; COUNTERS]) -> Option<Counters>
     ensures counters { result ≡ W.counters_of w }
     ensures count { length w ≡ W.counter_count }
 {
-    match edition_of(w[EDITION]) {
-        Some(e) => Some(Counters {
-            start: Start { edition: e },
-            wanted: w[0],
-            phase: w[1],
-            rows: w[2] as usize,
-            lines: w[3] as usize,
-            taken: w[4],
-        }),
-        None => None,
-    }
+    let edition = edition_of(w[EDITION])?;
+    Some(Counters {
+        start: Start { edition },
+        wanted: w[0],
+        phase: w[1],
+        rows: w[2] as usize,
+        lines: w[3] as usize,
+        taken: w[4],
+    })
 }
 
 // The words of counters.
 pub fn put_counters(w: &mut [u64; COUNTERS], c: Counters)
     ensures { w.new ≡ W.counter_words c }
 {
-    let start = c.start;
-    let edition = start.edition;
-    let n = editions::number(edition);
+    let n = editions::number(c.start.edition);
     *w = [c.wanted, c.phase, c.rows as u64, c.lines as u64, c.taken, n];
 }
 
@@ -54,73 +51,34 @@ pub fn put_fresh(w: &mut [u64; COUNTERS], edition: u64)
     w[EDITION] = edition;
 }
 
-fn price_mark(p: Option<u32>) -> u64
-    ensures { result ≡ W.price_mark p }
+// A figure that may be absent is two words: a mark, 1 where it is there, and the figure, 0 where it is not.
+fn mark<T>(figure: &Option<T>) -> u64
+    ensures { result ≡ W.figure_mark figure.now }
 {
-    match p {
-        None => 0,
-        Some(x) => 1,
-    }
+    u64::from(figure.is_some())
 }
 
-fn price_word(p: Option<u32>) -> u64
-    ensures { result ≡ W.price_word p }
+fn price_word(price: Option<u32>) -> u64
+    ensures { result ≡ W.figure_word price }
 {
-    match p {
-        None => 0,
-        Some(x) => x as u64,
-    }
-}
-
-fn net_mark(n: Option<i64>) -> u64
-    ensures { result ≡ W.net_mark n }
-{
-    match n {
-        None => 0,
-        Some(x) => 1,
-    }
+    price.map_or(0, |x| u64::from(x))
 }
 
 // A signed number's 64 bits: below zero, 2 to the 64 less its size.
 fn signed_word(x: i64) -> u64
     ensures { result ≡ W.signed_word x }
 {
-    if x < 0 {
-        return 18446744073709551615 - ((-1 - x) as u64);
-    }
-    x as u64
+    x.cast_unsigned()
 }
 
-fn net_word(n: Option<i64>) -> u64
-    ensures { result ≡ W.net_word n }
+// The clause `fits` says what the type says of the net that came in.
+fn net_word(net: Option<i64>) -> u64
+    ensures word { result ≡ W.net_word net }
+    ensures fits { NetFits net }
 {
-    match n {
-        None => 0,
+    match net {
         Some(x) => signed_word(x),
-    }
-}
-
-fn agrees_word(b: bool) -> u64
-    ensures { result ≡ cond b 1 0 }
-{
-    if b { 1 } else { 0 }
-}
-
-fn reported_mark(r: Option<u64>) -> u64
-    ensures { result ≡ W.reported_mark r }
-{
-    match r {
         None => 0,
-        Some(v) => 1,
-    }
-}
-
-fn reported_word(r: Option<u64>) -> u64
-    ensures { result ≡ W.reported_word r }
-{
-    match r {
-        None => 0,
-        Some(v) => v,
     }
 }
 
@@ -129,26 +87,21 @@ pub fn put_row(w: &mut [u64; ROW], r: RowShown)
     ensures { w.new ≡ W.row_words r }
 {
     let symbol = r.symbol;
-    let last = r.last;
-    let high = r.high;
-    let low = r.low;
-    let net = r.net;
-    let reported = r.reported;
     *w = [
         number8(&symbol, 0),
-        r.close as u64,
-        price_mark(last),
-        price_word(last),
-        price_mark(high),
-        price_word(high),
-        price_mark(low),
-        price_word(low),
-        net_mark(net),
-        net_word(net),
+        u64::from(r.close),
+        mark(&r.last),
+        price_word(r.last),
+        mark(&r.high),
+        price_word(r.high),
+        mark(&r.low),
+        price_word(r.low),
+        mark(&r.net),
+        net_word(r.net),
         r.volume,
         r.count,
-        agrees_word(r.agrees),
-        reported_mark(reported),
-        reported_word(reported),
+        u64::from(r.agrees),
+        mark(&r.reported),
+        r.reported.unwrap_or(0),
     ];
 }

@@ -1,21 +1,28 @@
 -- `words::counters` meets its contract.
 -- Assumes nothing.
-use Rattle.std.specs.Prelude.{Option}
+use Rattle.std.specs.Prelude.{Option, None}
 use mathlib.Core.Path.{◌≡◌, ap, sym, ◌∙◌}
 use lib.ListN.{length}
-use Rattle.words.specs.Words.{counter_count, counter_words, meant_for, counters_of}
 use borrow.Author.Rules.{rules}
-use Rattle.words.proofs.counters.Goals as goal
 use Rattle.editions.specs.declared.Edition.{Edition}
+use Rattle.words.specs.Words.{counter_count, counter_words, meant_for, counters_of}
+use Rattle.words.proofs.counters.Goals as goal
 
-pub returns-in-Some : goal.returns-in-Some
+pub returns-in_err-edition : goal.returns-in_err-edition
 unfolding counters_of counter_words
-returns-in-Some c =
+returns-in_err-edition c =
+    let none : c.from_residual.result ≡ None = search rules in
     let counted : length c.args.w ≡ counter_count = search rules in
-    let w = c.args.w in record { counters = ap (λ (n : Option Edition). meant_for n w) (sym c.in-Some.is ∙ c.edition_of.ensures); count = counted }
+    record {
+      counters = none ∙ ap (λ (n : Option Edition). meant_for n c.args.w) (sym c.in_err-edition.was ∙ c.edition_of.ensures);
+      count = counted;
+    }
 
-pub returns-in-None : goal.returns-in-None
+pub returns : goal.returns
 unfolding counters_of counter_words
-returns-in-None c =
+returns c =
     let counted : length c.args.w ≡ counter_count = search rules in
-    let w = c.args.w in record { counters = ap (λ (n : Option Edition). meant_for n w) (sym c.in-None.is ∙ c.edition_of.ensures); count = counted }
+    record {
+      counters = ap (λ (n : Option Edition). meant_for n c.args.w) (sym c.in_ok-edition.was ∙ c.edition_of.ensures);
+      count = counted;
+    }

@@ -14,7 +14,7 @@ overflow_add-result-in-Some c = let p = c.put_signed in
     let f = net_figure (c.args.at + 1) p.result c.in-Some.x (omega arith) (p.ensures.bytes, p.ensures.count) in
     omega (arith, f.behind, f.near, c.requires)
 
-pub returns-in-Some : goal.returns-in-Some
-returns-in-Some c = let p = c.put_signed in
+pub returns-in-Some-clause-put : goal.returns-in-Some-clause-put
+returns-in-Some-clause-put c = let p = c.put_signed in
     let f = net_figure (c.args.at + 1) p.result c.in-Some.x (omega arith) (p.ensures.bytes, p.ensures.count) in
     retold 40 (omega arith) (ap (λ (n : Option ℤ). 32 ∷ net_text n) (sym c.in-Some.is)) (then (byte c.put_byte.ensures) f)

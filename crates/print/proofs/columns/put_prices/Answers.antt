@@ -3,5 +3,5 @@
 use Rattle.print.proofs.Laws.{then}
 use Rattle.print.proofs.columns.put_prices.Goals as goal
 
-pub returns : goal.returns
-returns c = then c.put_price-a.ensures (then c.put_price-b.ensures c.put_price.ensures)
+pub returns-clause-put : goal.returns-clause-put
+returns-clause-put c = then c.put_price-a.ensures.put (then c.put_price-b.ensures.put c.put_price.ensures.put)

@@ -1,13 +1,9 @@
 -- `print::symbols::unpadded` meets its contract. The loop: what is left when k bytes are looked at is what is left of the whole.
 -- Assumes nothing.
 use mathlib.Core.Path.{◌≡◌}
-use Prim.Native.Nat.{◌≤◌}
-use lib.ListN.{length, take}
+use lib.ListN.{take}
 use Rattle.print.specs.Texts.{symbol_text}
 use Rattle.print.proofs.symbols.unpadded.Given as goal
 
 abbrev pub invariant-loop-k : goal.invariant-loop-k
-invariant-loop-k l = (l.k ≤ length l.s) × (symbol_text (take l.k l.s) ≡ symbol_text l.s)
-
-abbrev pub decreases-loop-k : goal.decreases-loop-k
-decreases-loop-k l = l.k
+invariant-loop-k l = symbol_text (take l.k l.s) ≡ symbol_text l.s
