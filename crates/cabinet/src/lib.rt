@@ -9,6 +9,7 @@ ghost use Rattle.std.specs.Prelude.{◌≡◌};
 ghost use Rattle.answers.specs.Answers.{number_of, answer_of};
 ghost use Rattle.editions.specs.Editions.{edition_named};
 ghost use Rattle.book.specs.State.{arrives};
+ghost use Rattle.book.specs.Calls.{row_told};
 ghost use Rattle.words.specs.Words.{fresh_words, row_words};
 ghost use Rattle.rows.specs.Changed.{ListingFits};
 ghost use Rattle.records.specs.Fits.{RecordFits};
@@ -17,13 +18,14 @@ ghost use Rattle.sizes.specs.Sizes.{size_of};
 ghost use Rattle.cabinet.specs.Crossing.{holding, listing_with, crossed, listed_from, delivered_from, shown_from};
 ghost use Rattle.cabinet.specs.Crossing.{read_by, write_answer_by, write_out_by, ListTyped, DeliverTyped};
 
-use answers::Answer;
+use answers::Refusal;
 use editions::edition_of;
 use records::packed::letter;
 use rows::Listing;
+use show::RowShown;
 
 // The number of an answer in the table: what every call but the first and the last tells.
-fn told(a: Answer) -> u8
+fn told(a: Result<(), Refusal>) -> u8
     ensures { result ≡ number_of a }
 {
     answers::number(a)
@@ -34,10 +36,7 @@ fn listing(symbol: [u8; 8], close: u32) -> Listing
     ensures made { result ≡ listing_with symbol close }
     ensures fits { ListingFits (listing_with symbol close) }
 {
-    Listing {
-        symbol: symbol,
-        close: close,
-    }
+    Listing { symbol, close }
 }
 
 // Writes the words of a fresh book of the edition that the number names; of a number that names none, words that are no
@@ -65,13 +64,11 @@ pub fn sorundappa_list(
     let name = *symbol;
     let l = listing(name, close);
     match words::counters(held) {
-        None => told(Answer::Unsound),
+        None => told(Err(Refusal::Unsound)),
         Some(before) => {
-            let s = book::list(before, rows, lines, l);
-            let a = s.answer;
-            let listed = s.counters;
-            words::put_counters(counters, listed);
-            told(a)
+            let listed = book::list(before, rows, lines, l);
+            words::put_counters(counters, listed.counters);
+            told(listed.answer)
         }
     }
 }
@@ -91,13 +88,28 @@ pub fn sorundappa_deliver(
 {
     let held = *counters;
     match words::counters(held) {
-        None => told(Answer::Unsound), // and no number is used up
+        None => told(Err(Refusal::Unsound)), // and no number is used up
         Some(before) => {
-            let s = book::deliver(before, rows, lines, number, message);
-            let a = s.answer;
-            let after = s.counters;
-            words::put_counters(counters, after);
-            told(a)
+            let delivered = book::deliver(before, rows, lines, number, message);
+            words::put_counters(counters, delivered.counters);
+            told(delivered.answer)
+        }
+    }
+}
+
+// The words of a row that was read, and the number of the answer to its reading; where that is not 0, every word is 0.
+fn row_words(read: Result<RowShown, Refusal>, row: &mut [u64; words::ROW]) -> u8
+    ensures answer { result ≡ number_of (row_told read).answer }
+    ensures row { row.new ≡ row_words (row_told read).row }
+{
+    match read {
+        Ok(shown) => {
+            words::put_row(row, shown);
+            told(Ok(()))
+        }
+        Err(refusal) => {
+            *row = [0; words::ROW];
+            told(Err(refusal))
         }
     }
 }
@@ -122,15 +134,9 @@ pub fn sorundappa_row(
     match words::counters(held) {
         None => {
             *row = [0; words::ROW];
-            told(Answer::Unsound)
+            told(Err(Refusal::Unsound))
         }
-        Some(c) => {
-            let s = book::row(c, rows, lines, name);
-            let a = s.answer;
-            let shown = s.row;
-            words::put_row(row, shown);
-            told(a)
-        }
+        Some(c) => row_words(book::row(c, rows, lines, name), row),
     }
 }
 
@@ -143,23 +149,20 @@ pub fn sorundappa_read(edition: u64, message: &[u8], out: &mut [u8; records::REC
     match edition_of(edition) {
         None => {
             *out = [0u8; records::RECORD];
-            told(Answer::NoType)
+            told(Err(Refusal::NoType))
         }
-        Some(e) => {
-            let a = message::read_packed(e, message, out);
-            told(a)
-        }
+        Some(e) => told(message::read_packed(e, message, out)),
     }
 }
 
 // The answer to a record that is to be written by no edition. Any bytes are a record that fits its types, as `letter`
 // says of those that it is lent; what the letter is does not matter.
-fn unwritten(b: &[u8]) -> Answer
+fn unwritten(b: &[u8]) -> Result<(), Refusal>
     ensures answer { result ≡ answer_of 5 }
     ensures fits { RecordFits (record_of b.now) }
 {
     let any = letter(b);
-    Answer::FieldBroken
+    Err(Refusal::FieldBroken)
 }
 
 // Writes a record's message, by an edition. Answers 0, 5 or 18; where not 0, out stays as it was.
@@ -171,14 +174,8 @@ pub fn sorundappa_write(edition: u64, bytes: &[u8; records::RECORD], out: &mut [
     ensures types { RecordFits (record_of bytes.now) }
 {
     match edition_of(edition) {
-        None => {
-            let a = unwritten(bytes);
-            told(a)
-        }
-        Some(e) => {
-            let a = message::write_packed(e, bytes, out);
-            told(a)
-        }
+        None => told(unwritten(bytes)),
+        Some(e) => told(message::write_packed(e, bytes, out)),
     }
 }
 

@@ -11,6 +11,9 @@ use borrow.Author.Tests.{eqb-true, eqb-false, eq-eqb, ne_eqb}
 use lib.Dec.{eqb}
 use lib.ListN.{length}
 use Rattle.octets.specs.Run.{Bytes}
+use Rattle.std.specs.Prelude.{Result}
+use Rattle.answers.specs.declared.Refusal.{Refusal}
+use Rattle.show.specs.declared.RowShown.{RowShown}
 use Rattle.answers.specs.Answers.{Answer, number_of, answer_of}
 use Rattle.answers.specs.Cases.{given}
 use Rattle.answers.proofs.Promise.{one_number_each}
@@ -26,7 +29,7 @@ use Rattle.table.proofs.Tables.{Wanted}
 use Rattle.show.specs.Showing.{nothing_shown}
 use Rattle.book.specs.declared.Said.{Said}
 use Rattle.book.specs.State.{State, with_counters, Outcome, Arrival, edition_of, wanted_in, lines_in}
-use Rattle.book.specs.Calls.{Shown, listed, delivered, shown}
+use Rattle.book.specs.Calls.{Shown, row_told, listed, delivered, shown}
 use Rattle.book.proofs.Demand1.{message_told, answer_taken, refused_keeps}
 use Rattle.book.proofs.Promise.{ListLfts, ListArgs, ListExit, DeliverLfts, DeliverArgs, DeliverExit, RowLfts, RowArgs, RowExit}
 use Rattle.book.proofs.Promise.{list_from, list_given, list_left, deliver_from, deliver_given, deliver_left, read_from, read_given}
@@ -315,8 +318,8 @@ module _ (R L : ℕ) where
 
 -- the reading of a row
 pub data Reads : State → List ℕ → Shown → Type 1 where
-  a_reading : (κs : RowLfts) (a : RowArgs κs) (r : Shown) (x : RowExit κs)
-      → row_reads.Learnt κs a r x → Reads (read_from κs a) (read_given κs a) r
+  a_reading : (κs : RowLfts) (a : RowArgs κs) (r : Result RowShown Refusal) (x : RowExit κs)
+      → row_reads.Learnt κs a r x → Reads (read_from κs a) (read_given κs a) (row_told r)
 
 reads_are : {s : State} {symbol : List ℕ} {r : Shown} → Reads s symbol r → r ≡ shown s symbol
 reads_are (a_reading κs a r x h) = h

@@ -13,10 +13,12 @@ use Rattle.octets.specs.Run.{Bytes}
 use Rattle.editions.specs.declared.Edition.{Edition}
 use Rattle.editions.specs.declared.Edition.TheVariants.{NlsPlus}
 use Rattle.records.specs.declared.Record.{Record}
+use Rattle.std.specs.Prelude.{Result}
+use Rattle.answers.specs.declared.Refusal.{Refusal}
 use Rattle.answers.specs.Answers.{Answer, number_of}
 use Rattle.records.specs.Fits.{RecordFits}
 use Rattle.message.specs.Obeying.{Lawful}
-use Rattle.message.specs.Reader.{Reading, accepted_of, read_of}
+use Rattle.message.specs.Reader.{Reading, reading_of, accepted_of, read_of}
 use Rattle.message.specs.Writer.{write_answer, write_out}
 use Rattle.message.specs.contracts.read as read
 use Rattle.message.proofs.read.Reads as read-reads
@@ -29,8 +31,8 @@ use Rattle.layouts.proofs.Trips.{ComesBack, BytesBack, read_then_written, read_a
 
 module _ (κs : Lfts 1) (a : ArgsD read.signature κs) where
   -- `read_exactly` of a call
-  pub read_called : (r : Reading) (s : AtExit (ended_of 1 read-kinds.ps read-kinds.r) κs) → read-reads.Learnt κs a r s
-      → ReadsExactly a.0 a.1.0.now r
+  pub read_called : (r : Result Record Refusal) (s : AtExit (ended_of 1 read-kinds.ps read-kinds.r) κs) → read-reads.Learnt κs a r s
+      → ReadsExactly a.0 a.1.0.now (reading_of r)
   read_called r s h = subst (ReadsExactly a.0 a.1.0.now) (sym h) (read_exactly a.0 a.1.0.now)
 
 module _ (κs : Lfts 1) (a : ArgsD write.signature κs) where
@@ -52,10 +54,10 @@ module _ (κs κs' : Lfts 1) (a : ArgsD read.signature κs) (b : ArgsD write.sig
   out = b.1.1.0.now
 
   -- a call of `read` that answers 0, and then one of `write` on the record that it found, with room for the message
-  module _ (r : Reading) (s : AtExit (ended_of 1 read-kinds.ps read-kinds.r) κs)
+  module _ (r : Result Record Refusal) (s : AtExit (ended_of 1 read-kinds.ps read-kinds.r) κs)
       (w : Answer) (x : AtExit (ended_of 1 write-kinds.ps write-kinds.r) κs')
-      (h : read-reads.Learnt κs a r s) (k : write-reads.Learnt κs' b w x) (f : b.1.0 ≡ r.found)
-      (g : Bytes m) (z : number_of r.answer ≡ 0) (l : length m ≤ length out) where
+      (h : read-reads.Learnt κs a r s) (k : write-reads.Learnt κs' b w x) (f : b.1.0 ≡ (reading_of r).found)
+      (g : Bytes m) (z : number_of (reading_of r).answer ≡ 0) (l : length m ≤ length out) where
     -- what it leaves
     abbrev left : List ℕ
     left = x.1.1.0.now
@@ -90,11 +92,11 @@ module _ (κs κs' : Lfts 1) (a : ArgsD read.signature κs) (b : ArgsD write.sig
         )
 
   -- `write_again` of a call of `write` and then one of `read`, on the message that it left
-  pub back_called : (r : Reading) (s : AtExit (ended_of 1 read-kinds.ps read-kinds.r) κs)
+  pub back_called : (r : Result Record Refusal) (s : AtExit (ended_of 1 read-kinds.ps read-kinds.r) κs)
       (w : Answer) (x : AtExit (ended_of 1 write-kinds.ps write-kinds.r) κs')
       → read-reads.Learnt κs a r s → write-reads.Learnt κs' b w x
       → RecordFits b.1.0 → (l : Lawful e b.1.0) → l.type.size ≤ length out
-      → m ≡ take l.type.size x.1.1.0.now → r ≡ accepted_of b.1.0
+      → m ≡ take l.type.size x.1.1.0.now → reading_of r ≡ accepted_of b.1.0
   back_called r s w x h k f l n q =
       h
       ∙ ap (read_of e) (q ∙ ap (take l.type.size) (k.1 ∙ ap (λ (d : Edition). write_out d b.1.0 out) same))

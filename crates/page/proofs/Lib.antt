@@ -1,5 +1,5 @@
 pub mod ByHand
 pub mod Laws
-pub mod Fitting
 pub mod WallLongest
 pub mod Promise
+pub mod Fitting

@@ -21,8 +21,7 @@ pub fn ended(stop: Stop, at: u64) -> Option<u64>
 {
     match stop {
         Stop::Ended => None,
-        Stop::NoKind => Some(at),
-        Stop::CutShort => Some(at),
+        Stop::NoKind | Stop::CutShort => Some(at),
     }
 }
 
@@ -41,8 +40,7 @@ fn row_line(c: Counters, rows: &[u8], lines: &[u8], i: usize, out: &mut [u8]) ->
         (row_text (shown_row (lent c rows.now lines.now) (row_in rows.now i))) }
 {
     let kept = rows::get(rows, i);
-    let listing = kept.listing;
-    let symbol = listing.symbol;
+    let symbol = kept.listing.symbol;
     let figures = walk::walk(lines, c.lines, symbol);
     print::row(show::shown(kept, figures), out)
 }

@@ -12,5 +12,5 @@ returns-in-None-clause-left c =
 
 pub returns-in-Some-clause-left : goal.returns-in-Some-clause-left
 returns-in-Some-clause-left c =
-    deliver_said _ _ (sym c.counters.ensures.counters ∙ c.in-Some.is) c.deliver-s.result _ _ _ _ c.put_counters.ensures
-    c.told-in-Some.ensures _ c.deliver-s.ensures
+    deliver_said _ _ (sym c.counters.ensures.counters ∙ c.in-Some.is) c.deliver-delivered.result _ _ _ _ c.put_counters.ensures
+    c.told-in-Some.ensures _ c.deliver-delivered.ensures

@@ -9,7 +9,7 @@ returns-in-None c = record { left = list_none _ (sym c.counters.ensures.counters
 
 pub returns-in-Some : goal.returns-in-Some
 returns-in-Some c = record {
-  left = list_said _ _ (sym c.counters.ensures.counters ∙ c.in-Some.is) c.list-s.result _ _ _ _
-      c.put_counters.ensures c.told-in-Some.ensures _ _ c.listing-l.ensures.made c.list-s.ensures;
+  left = list_said _ _ (sym c.counters.ensures.counters ∙ c.in-Some.is) c.list-listed.result _ _ _ _
+      c.put_counters.ensures c.told-in-Some.ensures _ _ c.listing-l.ensures.made c.list-listed.ensures;
   types = record { count = c.counters.ensures.count; fits = c.listing-l.ensures.fits };
 }
