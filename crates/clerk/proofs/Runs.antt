@@ -1,21 +1,26 @@
 -- The runs that the day's theorems speak of exist: for a book of any edition, rooms of any bytes, any listings and any arrivals there is
 -- such a day, and each symbol can be read then.
 -- Assumes nothing.
+use Rattle.std.specs.Prelude.{Result, Ok, Err, is_err}
 use Prim.Native.Nat.{ℕ}
 use mathlib.Core.Path.{◌≡◌, refl, sym, subst}
 use mathlib.Core.Bool.{Bool, true, false, cond}
 use mathlib.Core.List.{List, [], ◌∷◌}
 use lib.Dec.{eqb}
 use Rattle.octets.specs.Run.{Bytes}
-use Rattle.answers.specs.Answers.{number_of, answer_of}
+use Rattle.answers.specs.declared.Refusal.{Refusal}
+use Rattle.answers.specs.Answers.{Answer, number_of, answer_of}
+use Rattle.answers.proofs.Promise.{not_done}
 use Rattle.editions.specs.declared.Edition.{Edition}
 use Rattle.rows.specs.declared.Listing.{Listing}
 use Rattle.rows.specs.Changed.{ListingFits}
 use Rattle.counters.specs.Counting.{fresh_counters}
 use Rattle.book.specs.declared.Said.{Said}
 use Rattle.book.specs.State.{State, with_counters, with_rows, Outcome, Arrival}
-use Rattle.book.specs.Calls.{list_answer, with_listing, listed, delivered, shown}
-use Rattle.book.proofs.Demand1.{list_told, message_told}
+use Rattle.book.specs.Calls.{list_answer, with_listing, listed, delivered, row_told, shown}
+use Rattle.show.specs.declared.RowShown.{RowShown}
+use Rattle.show.specs.Showing.{nothing_shown}
+use Rattle.book.proofs.Demand1.{list_told, message_told, refused_keeps}
 use Rattle.book.proofs.Promise.{list_at, list_with, list_then, deliver_at, deliver_with, deliver_then, read_at, read_with, read_then}
 use Rattle.clerk.proofs.Lent.{deliver_bytes}
 use Rattle.clerk.proofs.Demand3.{Lists, no_listing, a_listing, Delivers, no_message, a_message, Day, Reads, a_reading}
@@ -84,6 +89,19 @@ day_there ed rooms ls l bl e b =
     let q = delivers_there p.0 l (subst Bytes (sym p.1) bl) b in
     (q.0, record { start = fresh_counters ed; started = refl; ready = p.0; lists = p.2; delivers = q.1 })
 
+-- what is told of a row by a result: a refusal leaves the row out
+abbrev row_result : Answer → RowShown → Result RowShown Refusal
+row_result (Ok tt) w = Ok w
+row_result (Err f) w = Err f
+
+row_result_is : (a : Answer) (w : RowShown) → (is_err a ≡ true → w ≡ nothing_shown) → row_told (row_result a w) ≡ record { answer = a; row = w }
+row_result_is (Ok tt) w h = refl
+row_result_is (Err f) w h = rw (h refl)
+
 -- what a reading tells is told by some reading
 pub reading_there : (s : State) (symbol : List ℕ) → Reads s symbol (shown s symbol)
-reading_there s symbol = a_reading read_at (read_with s symbol) (shown s symbol) (read_then s symbol) refl
+reading_there s symbol =
+    let w = shown s symbol in
+    let e : row_told (row_result w.answer w.row) ≡ w
+    = row_result_is w.answer w.row (λ r. (refused_keeps s).row symbol (not_done w.answer r)) in
+    subst (Reads s symbol) e (a_reading read_at (read_with s symbol) (row_result w.answer w.row) (read_then s symbol) e)
