@@ -1,7 +1,7 @@
 // A message read, a record written, and both told.
 use crate::told;
 use editions::Edition;
-use records::Record;
+use records::{RECORD, Record};
 use std::io::{Result, Write};
 
 // What a lent space holds before a record is written.
@@ -18,19 +18,23 @@ pub fn read<W: Write>(out: &mut W, message: &[u8]) -> Result<Record> {
     telling::words(out, b"given ")?;
     telling::hex(out, message)?;
     let said = message::read(Edition::NlsPlus, message);
-    let a = said.answer;
     telling::words(out, b"\nread ")?;
-    telling::number(out, answers::number(a) as u64)?;
-    let found = said.found;
+    telling::answer(out, answers::number(said.map(|_| ())))?;
+    let found = said.unwrap_or(no_record());
     told::tell(out, found)?;
     Ok(found)
 }
 
+// The record that is told of a message that was refused: every field is zero.
+pub fn no_record() -> Record {
+    records::packed::record(&[0u8; RECORD])
+}
+
 // Writes a record, and tells the answer and the space's bytes.
 pub fn write<W: Write>(out: &mut W, r: Record, space: &mut [u8]) -> Result<()> {
-    let a = message::write(Edition::NlsPlus, r, space);
+    let answer = message::write(Edition::NlsPlus, r, space);
     telling::words(out, b"write ")?;
-    telling::number(out, answers::number(a) as u64)?;
+    telling::answer(out, answers::number(answer))?;
     telling::words(out, b"\nspace ")?;
     telling::hex(out, space)?;
     telling::words(out, b"\n")

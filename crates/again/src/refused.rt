@@ -35,8 +35,7 @@ pub fn writes<W: Write>(out: &mut W) -> Result<()> {
 fn report() -> Record {
     let mut message = [0u8; 45];
     sound::trade(&mut message, b'T');
-    let said = message::read(Edition::NlsPlus, &message);
-    said.found
+    message::read(Edition::NlsPlus, &message).unwrap_or(back::no_record())
 }
 
 fn short<W: Write>(out: &mut W, r: Record) -> Result<()> {

@@ -2,6 +2,7 @@
 ghost use Rattle.std.specs.Prelude.{◌≡◌, ◌≤◌, length, take};
 
 use crate::rooms;
+use answers::Refusal;
 use book::Said;
 use counters::Counters;
 use editions::Edition;
@@ -59,27 +60,27 @@ pub fn least(n: usize, s: &[u8]) -> usize
 // The writer by itself: an event at 1,000 ms.
 pub fn write<W: Write>(out: &mut W, space: &mut [u8], code: &[u8]) -> Result<()> {
     let sound = message::read(Edition::NlsPlus, b"\x00\x00\x03\xe8SO");
-    let mut r = sound.found;
+    let mut r = sound.unwrap_or(records::packed::record(&[0u8; records::RECORD]));
     r.event = single::byte(code, 1);
-    let a = message::write(Edition::NlsPlus, r, space);
-    telling::marked(out, b':', answers::number(a) as u64)?;
+    tell_answer(out, message::write(Edition::NlsPlus, r, space))?;
     telling::marked(out, b';', rooms::sum(space))
 }
 
 // The reader by itself.
 pub fn read<W: Write>(out: &mut W, space: &[u8]) -> Result<()> {
-    let said = message::read(Edition::NlsPlus, space);
-    let a = said.answer;
-    telling::marked(out, b':', answers::number(a) as u64)?;
+    tell_answer(out, message::read(Edition::NlsPlus, space).map(|_| ()))?;
     telling::words(out, b"\n")
 }
 
 fn after<W: Write>(out: &mut W, said: Said, rows: &[u8], lines: &[u8]) -> Result<Counters> {
-    let a = said.answer;
-    let c = said.counters;
-    telling::marked(out, b':', answers::number(a) as u64)?;
-    state(out, c, rows, lines)?;
-    Ok(c)
+    tell_answer(out, said.answer)?;
+    state(out, said.counters, rows, lines)?;
+    Ok(said.counters)
+}
+
+// The number of an answer.
+fn tell_answer<W: Write>(out: &mut W, answer: std::result::Result<(), Refusal>) -> Result<()> {
+    telling::marked(out, b':', u64::from(answers::number(answer)))
 }
 
 // The counters and the sums of both rooms.
@@ -103,9 +104,8 @@ pub fn row<W: Write>(
     code: &[u8],
 ) -> Result<()> {
     let said = book::row(c, rows, lines, symbol(code));
-    let a = said.answer;
-    telling::marked(out, b':', answers::number(a) as u64)?;
-    shown(out, said.row)
+    tell_answer(out, said.map(|_| ()))?;
+    shown(out, said.unwrap_or(show::nothing()))
 }
 
 fn shown<W: Write>(out: &mut W, r: RowShown) -> Result<()> {

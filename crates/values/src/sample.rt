@@ -24,9 +24,7 @@ fn answer_to(bytes: &[u8], n: usize) -> u8 {
 }
 
 fn answer(message: &[u8]) -> u8 {
-    let said = message::read(Edition::NlsPlus, message);
-    let a = said.answer;
-    answers::number(a)
+    answers::number(message::read(Edition::NlsPlus, message).map(|_| ()))
 }
 
 // The message with another byte at a place.
