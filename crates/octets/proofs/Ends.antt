@@ -20,7 +20,7 @@ use Rattle.octets.proofs.Trips.{join, lent, whole, part_cons, part_nil, part_dro
 -- ---- runs stored
 
 -- nothing is stored past the end
-none_past : (xs l : List ℕ) (at : ℕ) → length l ≤ at → sets l at xs ≡ l
+pub none_past : (xs l : List ℕ) (at : ℕ) → length l ≤ at → sets l at xs ≡ l
 none_past [] l at h = refl
 none_past (x ∷ xs) l at h = rw (set_past l at x h) (none_past xs l (suc at) (omega arith))
 
