@@ -144,7 +144,9 @@ drop_within (x ∷ xs) (suc i) (suc e) h = drop_within xs i e (omega arith)
 pub moved : (l z : List ℕ) (at n a e i : ℕ) → a ≡ min at (length l) → e ≡ min n (length l) → i ≡ min e (length l - a)
     → z ≡ replicate (e - i) 0 → put_mid i (e - i) (paste l 0 (drop a l) i) z ≡ sets l 0 (part l at n)
 moved l z at n a e i f g h q =
-    rw (taken, dropped) (sym (append_assoc run z (drop e l)) ∙ ap (λ (xs : List ℕ). xs ++ drop e l) (ends ∙ sym (part_cut l at e n (omega arith))))
+    rw (taken, dropped)
+    (sym (append_assoc run z (drop e l))
+    ∙ ap (λ (xs : List ℕ). xs ++ drop e l) (ends ∙ sym (part_cut l at e n (omega arith))))
     ∙ front_stored (part l at n) l e (omega (arith, part_length l at n))
   where
     run : List ℕ
@@ -205,4 +207,5 @@ pub same_ends : (xs ys : List ℕ) (k : ℕ) → length xs + k ≡ length ys
 same_ends [] ys k e = sym (zeros_same ys k (omega arith))
 same_ends (x ∷ xs) [] k e = absurd (omega arith)
 same_ends (x ∷ xs) (y ∷ ys) k e =
-    and_assoc (eqb x y) (same xs (take (length xs) ys)) (all 0 (drop (length xs) ys)) ∙ ap (◌&&◌ (eqb x y)) (same_ends xs ys k (omega arith))
+    and_assoc (eqb x y) (same xs (take (length xs) ys)) (all 0 (drop (length xs) ys))
+    ∙ ap (◌&&◌ (eqb x y)) (same_ends xs ys k (omega arith))

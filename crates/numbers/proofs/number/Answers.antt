@@ -10,4 +10,5 @@ use Rattle.numbers.proofs.number.Goals as goal
 pub returns-then-at-left : goal.returns-then-at-left
 returns-then-at-left g c = let a = c.args in
     let n = g.T.Unsigned.WIDTH in
-    c.first.ensures ∙ ap be (part_lent a.s.now a.at (a.at + c.WIDTH-then-at-left.result) n (omega arith) (omega (arith, g.met.T.Unsigned.some)))
+    let w = c.WIDTH-then-at-left.result in
+    c.first.ensures ∙ ap be (part_lent a.s.now a.at (a.at + w) n (omega arith) (omega (arith, g.met.T.Unsigned.some)))

@@ -22,5 +22,6 @@ returns c = let a = c.args in
 pub returns-2 : goal.returns-2
 returns-2 c = let a = c.args in
     let run = c.rest-run.result.now in
-    all_from_yields_List (λ x. eqb x a.v) _ _ c.all.result c.all.ensures.ran (YieldsList-from_slice run cc) (λ x b q k. search (rules, tests))
+    all_from_yields_List (λ x. eqb x a.v) _ _ c.all.result c.all.ensures.ran (YieldsList-from_slice run cc)
+    (λ x b q k. search (rules, tests))
     ∙ all_std a.v run ∙ ap (all a.v) c.rest-run.ensures

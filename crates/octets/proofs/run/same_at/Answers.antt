@@ -12,7 +12,8 @@ use Rattle.octets.proofs.run.same_at.Goals as goal
 pub returns-then-t-run : goal.returns-then-t-run
 returns-then-t-run c = let a = c.args in
     c.same_run.ensures
-    ∙ ap (λ (xs : List ℕ). same xs a.t.now) (part_inside a.s.now c.rest-run.result.now a.at (length a.t.now) c.rest-run.ensures c.if-t-run.true)
+    ∙ ap (λ (xs : List ℕ). same xs a.t.now)
+    (part_inside a.s.now c.rest-run.result.now a.at (length a.t.now) c.rest-run.ensures c.if-t-run.true)
 
 pub returns-else-t-run : goal.returns-else-t-run
 returns-else-t-run c = let a = c.args in

@@ -18,13 +18,16 @@ pub returns-then-eq : goal.returns-then-eq
 returns-then-eq c = let run = c.args.run.now in
     let t = c.args.t.now in
     let past = c.split_at.result.1.now in
-    let e = sym (same_std run (take (length run) t)) ∙ sym (c.eq.ensures ∙ ap (pointwise eqb run) c.split_at.ensures.front) ∙ c.if-eq.true in
-    all_from_yields_List (λ x. eqb x 0) _ _ c.all.result c.all.ensures.ran (YieldsList-from_slice past cc) (λ x b q k. search (rules, tests))
+    let front = ap (pointwise eqb run) c.split_at.ensures.front in
+    let e = sym (same_std run (take (length run) t)) ∙ sym (c.eq.ensures ∙ front) ∙ c.if-eq.true in
+    all_from_yields_List (λ x. eqb x 0) _ _ c.all.result c.all.ensures.ran (YieldsList-from_slice past cc)
+    (λ x b q k. search (rules, tests))
     ∙ all_std 0 past ∙ ap (all 0) c.split_at.ensures.back
     ∙ rw e at (same_ends run t (length t - length run) (omega arith))
 
 pub returns-else-eq : goal.returns-else-eq
 returns-else-eq c = let run = c.args.run.now in
     let t = c.args.t.now in
-    let e = sym (same_std run (take (length run) t)) ∙ sym (c.eq.ensures ∙ ap (pointwise eqb run) c.split_at.ensures.front) ∙ c.if-eq.false in
+    let front = ap (pointwise eqb run) c.split_at.ensures.front in
+    let e = sym (same_std run (take (length run) t)) ∙ sym (c.eq.ensures ∙ front) ∙ c.if-eq.false in
     c.if-eq.false ∙ rw e at (same_ends run t (length t - length run) (omega arith))

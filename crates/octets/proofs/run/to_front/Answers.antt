@@ -16,4 +16,5 @@ returns c = let a = c.args in
     let w : s + i - s ≡ i = omega arith in
     let k : length (take (e - i) (drop i c.copy_within.new.self)) ≡ e - i = length-take-le _ _ (rw length-drop (omega arith)) in
     let z : c.fill.new.self ≡ replicate (e - i) 0 = c.fill.ensures.after (λ y e. e) ∙ ap (λ (n : ℕ). replicate n 0) k in
-    rw (c.copy_within.ensures.after, w) (moved a.out.now c.fill.new.self a.at a.n s e i c.min-start.ensures c.min-end.ensures c.min-inside.ensures z)
+    rw (c.copy_within.ensures.after, w)
+    (moved a.out.now c.fill.new.self a.at a.n s e i c.min-start.ensures c.min-end.ensures c.min-inside.ensures z)
