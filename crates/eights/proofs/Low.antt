@@ -2,24 +2,27 @@
 -- Assumes nothing.
 use mathlib.Core.Path.{◌≡◌, ap, ◌∙◌}
 use mathlib.Core.List.{List}
-use Prim.Native.Nat.{ℕ, ◌+◌, ◌*◌, ◌-◌, ◌≤◌}
-use native.Mathlib.Nat.{add-zero}
+use Prim.Native.Nat.{ℕ, ◌+◌, ◌-◌, ◌≤◌}
 use native.Mathlib.Omega.{arith}
 use lib.Dec.{eqb}
-use lib.ListN.{length, take, drop, get_or}
-use Rattle.octets.specs.Run.{tab, part, same, Bytes}
+use lib.ListN.{length, take, drop}
+use Rattle.std.specs.Int.{w64, swap_bytes}
+use Rattle.numbers.specs.Number.{be, digits}
+use Rattle.numbers.proofs.Trips.{digits_part}
+use Rattle.octets.specs.Run.{part, same, Bytes}
 use Rattle.octets.proofs.Laws.{part_length}
 use Rattle.octets.proofs.Low.{low_same}
 use Rattle.octets.proofs.Trips.{whole, lent}
 use Rattle.eights.specs.Low.{low}
 
--- eight bytes, as two numbers of four
-pub low_eight : (m : List ℕ) (at : ℕ)
-    → (get_or m (at + 7) 0 * 16777216 + get_or m (at + 6) 0 * 65536 + get_or m (at + 5) 0 * 256 + get_or m (at + 4) 0) * 4294967296
-    + (get_or m (at + 3) 0 * 16777216 + get_or m (at + 2) 0 * 65536 + get_or m (at + 1) 0 * 256 + get_or m at 0)
-    ≡ low (part m at 8)
-unfolding low part tab
-low_eight m at = rw (add-zero at) (omega arith)
+-- the eight bytes of a number, turned about
+turned : (x : ℕ) → swap_bytes w64 x ≡ low (digits 8 x)
+unfolding low digits
+turned x = omega arith
+
+-- a number read with the first byte the highest, and turned about
+pub low_turned : (m : List ℕ) (at x : ℕ) → Bytes m → x ≡ be (part m at 8) → swap_bytes w64 x ≡ low (part m at 8)
+low_turned m at x b e = ap (swap_bytes w64) e ∙ turned (be (part m at 8)) ∙ ap low (digits_part m at 8 b)
 
 -- eight bytes lent to a call, from the part's first byte on
 pub low_lent : (m : List ℕ) (at : ℕ) → at + 8 ≤ length m → low (part (take (at + 8 - at) (drop at m)) 0 8) ≡ low (part m at 8)

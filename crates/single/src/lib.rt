@@ -8,24 +8,25 @@ ghost use Rattle.std.specs.Prelude.{◌≡◌, ◌+◌, ◌-◌, get_or, set};
 pub fn left(size: usize, at: usize) -> usize
     ensures { result ≡ size - at }
 {
-    if size < at { 0 } else { size - at }
+    size.saturating_sub(at)
 }
 
 // The byte at a place.
 pub fn byte(s: &[u8], at: usize) -> u8
     ensures { result ≡ get_or s.now at 0 }
 {
-    if at < s.len() { s[at] } else { 0 }
+    s.get(at).copied().unwrap_or(0)
 }
 
 // The byte j places past a place; the sum of the two may not fit a usize.
 pub fn byte_past(s: &[u8], at: usize, j: usize) -> u8
     ensures { result ≡ get_or s.now (at + j) 0 }
 {
-    if s.len() <= at {
-        return 0;
+    if at < s.len() && j < s.len() - at {
+        s[at + j]
+    } else {
+        0
     }
-    if j < s.len() - at { s[at + j] } else { 0 }
 }
 
 // Stores a byte at a place.
@@ -41,10 +42,7 @@ pub fn put_byte(out: &mut [u8], at: usize, b: u8)
 pub fn put_past(out: &mut [u8], at: usize, j: usize, b: u8)
     ensures { out.new ≡ set out.old (at + j) b }
 {
-    if out.len() <= at {
-        return;
-    }
-    if j < out.len() - at {
+    if at < out.len() && j < out.len() - at {
         out[at + j] = b;
     }
 }

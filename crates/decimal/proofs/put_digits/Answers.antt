@@ -2,26 +2,17 @@
 -- Assumes nothing.
 use mathlib.Core.Path.{◌≡◌, sym, ◌∙◌}
 use native.Mathlib.Omega.{arith}
-use lib.ListN.{length-set}
-use Rattle.decimal.proofs.Laws.{digit_turn, far}
+use Rattle.decimal.proofs.Laws.{digit_turn}
 use Rattle.decimal.specs.Decimal.{lowest}
 use Rattle.decimal.proofs.put_digits.Goals as goal
-
-pub returns-then-out-at : goal.returns-then-out-at
-returns-then-out-at c = let a = c.args in
-    sym (far (lowest a.k a.n) a.out.now a.at c.if-out-at.true)
 
 pub loop-i-preserved : goal.loop-i-preserved
 loop-i-preserved c = let a = c.args in
     let l = c.loop-i in
-    let e = c.put_byte.ensures in (
-      omega arith,
-      rw e (simp length-set l.invariant.1),
-      rw e (sym (digit_turn l.out a.at l.i l.y c.loop-i-test.true) ∙ l.invariant.2),
-    )
+    rw c.put_past.ensures (sym (digit_turn l.out a.at l.i l.y (omega arith)) ∙ l.invariant)
 
 pub returns : goal.returns
 unfolding lowest
 returns c = let l = c.loop-i in
     let e : l.i ≡ 0 = omega arith in
-    rw e at l.invariant.2
+    rw e at l.invariant

@@ -4,10 +4,10 @@ use borrow.Author.Tests.{eq-eqb, ne_eqb}
 use Rattle.texts.specs.Text as Text
 use Rattle.texts.proofs.is_text.Goals as goal
 
-pub returns-then-k-eq0 : goal.returns-then-k-eq0
+pub returns-then-k-ne0 : goal.returns-then-k-ne0
 unfolding Text.text
-returns-then-k-eq0 c = rw (← c.inked-k.ensures, eq-eqb _ _ c.if-k-eq0.true)
+returns-then-k-ne0 c = rw (← c.inked-k.ensures, ne_eqb _ _ c.if-k-ne0.true) c.is_all.ensures
 
-pub returns : goal.returns
+pub returns-else-k-ne0 : goal.returns-else-k-ne0
 unfolding Text.text
-returns c = rw (← c.inked-k.ensures, ne_eqb _ _ c.if-k-eq0.false) c.is_all.ensures
+returns-else-k-ne0 c = rw (← c.inked-k.ensures, eq-eqb _ _ c.if-k-ne0.false)

@@ -1,20 +1,20 @@
--- `octets::run::to_front` meets its contract. The loop: i bytes stand at the front, and those behind are as they were.
+-- `octets::run::to_front` meets its contract.
 -- Assumes nothing.
-use mathlib.Core.Path.{refl, ◌∙◌}
+use mathlib.Core.Path.{◌≡◌, ap, ◌∙◌}
+use Prim.Native.Nat.{ℕ, ◌+◌, ◌-◌}
 use native.Mathlib.Omega.{arith}
-use lib.ListN.{length-set}
-use Rattle.octets.proofs.Laws.{front_turn}
-use Rattle.octets.proofs.Turns.{copy_none}
+use lib.ListN.{length, take, drop, replicate, length-drop}
+use lib.Seq.{length-take-le}
+use Rattle.octets.proofs.Ends.{moved}
 use Rattle.octets.proofs.run.to_front.Goals as goal
 
-pub loop-i-init : goal.loop-i-init
-loop-i-init c = (omega arith, refl, copy_none _ _ 0 _)
-
-pub loop-i-preserved : goal.loop-i-preserved
-loop-i-preserved c = let a = c.args in
-    let l = c.loop-i in
-    let e = c.put_byte.ensures in (
-      omega arith,
-      rw e (simp length-set l.invariant.1),
-      e ∙ front_turn a.out.now l.out a.at l.i _ l.invariant.2 c.byte_past-b.ensures,
-    )
+pub returns : goal.returns
+returns c = let a = c.args in
+    let s = c.min-start.result in
+    let e = c.min-end.result in
+    let i = c.min-inside.result in
+    let w : s + i - s ≡ i = omega arith in
+    let k : length (take (e - i) (drop i c.copy_within.new.self)) ≡ e - i = length-take-le _ _ (rw length-drop (omega arith)) in
+    let z : c.fill.new.self ≡ replicate (e - i) 0 = c.fill.ensures.after (λ y e. e) ∙ ap (λ (n : ℕ). replicate n 0) k in
+    rw (c.copy_within.ensures.after, w)
+    (moved a.out.now c.fill.new.self a.at a.n s e i c.min-start.ensures c.min-end.ensures c.min-inside.ensures z)

@@ -1,0 +1,11 @@
+-- `numbers::Unsigned::first` of u16 meets its contract.
+-- Assumes nothing.
+use mathlib.Core.Path.{refl, ap, ◌∙◌}
+use Rattle.std.specs.Int.{w16, from_be_bytes}
+use Rattle.octets.proofs.Ends.{part_inside}
+use Rattle.numbers.proofs.Std.{read_two}
+use Rattle.numbers.proofs.U16Unsigned.first.Goals as goal
+
+pub returns-in-Some : goal.returns-in-Some
+returns-in-Some c = let s = c.args.s.now in
+    c.from_be_bytes.ensures ∙ ap (from_be_bytes w16) (c.in-Some.ensures.cases.same ∙ part_inside s s 0 2 refl c.requires) ∙ read_two s 0
