@@ -116,8 +116,8 @@ pub fn length_of(kind: Kind) -> usize
     }
 }
 
-// Puts the fields of a message into the eighty bytes of a record, by the form of its type. Each caller names a form that
-// the compiler knows, so that the widths of the copies are constants.
+// Puts the fields of a message into the eighty bytes of a record, by the form of its type. Each caller names the form,
+// so that the compiler knows the widths of the copies.
 #[inline(always)]
 fn unpack_form(b: &mut [u8], m: &[u8], form: Form)
     ensures { b.new ≡ unpacked form b.old m.now }

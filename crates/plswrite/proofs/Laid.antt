@@ -28,7 +28,8 @@ use Rattle.plswrite.specs.Stored.{sale_shown, head_stored, trade_stored}
 pub sale_shown_lem : (l b : List ℕ) (to at : ℕ)
     → let price = shown_in 10 4 (be (part b (at + 10) 4)) in
     let size = shown_in 9 1 (be (part b (at + 14) 4)) in
-    sets (sets (sets (sets l to (part b at 10)) (to + 10) price) (to + 20) size) (to + 29) (part b (at + 18) 4) ≡ sets l to (sale_shown b at)
+    sets (sets (sets (sets l to (part b at 10)) (to + 10) price) (to + 20) size) (to + 29) (part b (at + 18) 4)
+    ≡ sets l to (sale_shown b at)
 unfolding sale_shown
 sale_shown_lem l b to at =
     let p = be (part b (at + 10) 4) in

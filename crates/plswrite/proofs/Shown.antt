@@ -9,7 +9,8 @@ use native.Mathlib.Omega.{arith}
 use borrow.Author.Tests.{ltb-true, ltb-false, ne_eqb}
 use borrow.Rule.Slice.PartMut.{put_mid}
 use lib.Dec.{ltb, lit<}
-use lib.ListN.{length, take, drop, set, replicate, length-take, length-drop, length-set, length-replicate, length-append, replicate-append-replicate}
+use lib.ListN.{length, take, drop, set, replicate, length-take, length-drop, length-set, length-replicate, length-append}
+use lib.ListN.{replicate-append-replicate}
 use lib.Seq.{drop-drop, sets, sets-eq, set-set, set_comm, length-sets}
 use Rattle.octets.specs.Low.{low}
 use Rattle.octets.proofs.Laws.{sets_then}
@@ -375,7 +376,8 @@ shown_stored l a b out at w d x y h k s e f g i =
     ∙ ap (λ (j : ℕ). sets l at (replicate j 32 ++ lowest (shown_count w d x) x)) before
 
 -- a number with a digit for each place
-pub shown_full : (l out : List ℕ) (at w d x : ℕ) → d < w → 10 ^ (w - 1) ≤ x → out ≡ sets l at (lowest w x) → out ≡ sets l at (shown_in w d x)
+pub shown_full : (l out : List ℕ) (at w d x : ℕ) → d < w → 10 ^ (w - 1) ≤ x → out ≡ sets l at (lowest w x)
+    → out ≡ sets l at (shown_in w d x)
 unfolding shown_in
 shown_full l out at w d x k s e =
     let count : shown_count w d x ≡ w = omega (arith, count_least (w - 1) x s) in

@@ -18,6 +18,7 @@ use Rattle.judge.proofs.none.Goals as goal
 pub returns : goal.returns
 returns c = let a = c.args in
     let xs : List ℕ = take (a.at + a.n - a.at) (drop a.at a.b.now) in
-    fold_from_yields_List _ (λ t x. t && eqb x 0) true _ c.fold.ensures.ran (YieldsList-from_slice xs (cc)) (λ t x b q k. search (rules, tests))
+    fold_from_yields_List _ (λ t x. t && eqb x 0) true _ c.fold.ensures.ran (YieldsList-from_slice xs (cc))
+    (λ t x b q k. search (rules, tests))
     ∙ none_walked true xs
     ∙ ap (all 0) (lent a.b.now a.at (a.at + a.n) a.n (omega arith) (omega arith))
