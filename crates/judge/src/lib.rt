@@ -116,6 +116,7 @@ fn summary_kept(b: &[u8; RECORD]) -> bool
 
 // Whether a record bears a type's letter and keeps the rules of the fields that the type has, whatever stands in the
 // others: for a reader, who has just put zeros there. The volume of a T, an X and a C has no rule.
+#[inline(always)]
 pub fn kept(edition: Edition, b: &[u8; RECORD], kind: Kind) -> bool
     ensures { result ≡ kept_in (layout_of edition kind) (record_of b.now) }
 {

@@ -1,6 +1,6 @@
 -- What the walks over a number field come to.
 -- Assumes nothing.
-use mathlib.Core.Path.{◌≡◌, refl, ap, ◌∙◌}
+use mathlib.Core.Path.{◌≡◌, refl}
 use mathlib.Core.Bool.{Bool, true, false, cond, ◌&&◌}
 use mathlib.Core.List.{List, [], ◌∷◌}
 use Prim.Native.Nat.{ℕ, suc, ◌+◌, ◌-◌, ◌^◌, ◌≤◌, ◌<◌}
@@ -8,9 +8,8 @@ use native.Mathlib.Nat.{pow-le-pow_right}
 use native.Mathlib.Omega.{arith}
 use borrow.Author.Tests.{le-leb, lt-leb}
 use lib.Dec.{eqb, ltb, lit<}
-use lib.ListN.{length, take, drop, get_or, drop_of_length-le, length-drop}
+use lib.ListN.{length, drop, get_or, drop_of_length-le, length-drop}
 use lib.Seq.{drop-cons}
-use Rattle.std.proofs.lemmas.List.{take_all}
 use Rattle.std.specs.Prelude.{None, Some, MatchOption, unwrap_or}
 use Rattle.std.specs.List.{prefix_len}
 use Rattle.std.proofs.lemmas.List.Sums.{prefix_len-le-length}
@@ -34,10 +33,6 @@ blanks_walked (x ∷ s) = go (eqb x 32) (blanks_walked s)
 pub blanks_most : (s : List ℕ) → blanks s ≤ length s
 blanks_most s = omega (arith, blanks_walked s, prefix_len-le-length (λ x. eqb x 32) s)
 
--- as the part of a field that is walked
-pub behind : (s : List ℕ) (n : ℕ) → n ≡ blanks s → take (length s - n) (drop n s) ≡ rest s
-behind s n e = take_all (length s - n) (drop n s) (omega (arith, length-drop n s)) ∙ ap (λ (k : ℕ). drop k s) e
-
 -- ---- what is left of a field, at its head and at its end
 
 module _ (s : List ℕ) (i : ℕ) where
@@ -56,18 +51,19 @@ room_more i x h l = omega (arith, pow-le-pow_right {n = 10} (lit< tt) h)
 
 -- ---- what the field says
 
-module _ (least : ℕ) (s d : List ℕ) (q : d ≡ rest s) where
-  pub number_broken : are_digits d ≡ false → None ≡ number_of least s
+module _ (least : ℕ) (s : List ℕ) where
+  pub number_broken : are_digits (rest s) ≡ false → None ≡ number_of least s
   unfolding number_of spelt value_of
-  number_broken e = rw (← q, e)
+  number_broken e = rw e
 
-  pub number_short : are_digits d ≡ true → length d < least → None ≡ number_of least s
+  pub number_short : are_digits (rest s) ≡ true → length s - blanks s < least → None ≡ number_of least s
   unfolding number_of spelt value_of
-  number_short e l = rw (← q, e, lt-leb least (length d) l)
+  number_short e l = rw (e, lt-leb least (length (rest s)) (omega (arith, length-drop (blanks s) s)))
 
-  pub number_whole : (x : ℕ) → are_digits d ≡ true → least ≤ length d → x ≡ worth d → Some x ≡ number_of least s
+  pub number_whole : (x : ℕ) → are_digits (rest s) ≡ true → least ≤ length s - blanks s → x ≡ worth (rest s)
+      → Some x ≡ number_of least s
   unfolding number_of spelt value_of
-  number_whole x e l w = rw (← q, e, le-leb least (length d) l, w)
+  number_whole x e l w = rw (e, le-leb least (length (rest s)) (omega (arith, length-drop (blanks s) s)), w)
 
 -- ---- what is made of it
 

@@ -15,13 +15,17 @@ pub(crate) fn read_number(s: &[u8], least: usize) -> Option<u64>
     requires { length s.now ≤ 19 }
     ensures { result ≡ number_of least s.now }
 {
-    let digits = &s[spaces(s)..];
+    let from = spaces(s);
     let mut x: u64 = 0;
-    for b in digits {
-        if !b.is_ascii_digit() {
+    for i in from..s.len() {
+        if !s[i].is_ascii_digit() {
             return None;
         }
-        x = x * 10 + u64::from(*b - b'0');
+        x = x * 10 + u64::from(s[i] - b'0');
     }
-    if digits.len() < least { None } else { Some(x) }
+    if s.len() - from < least {
+        None
+    } else {
+        Some(x)
+    }
 }

@@ -90,6 +90,7 @@ fn put_rest(out: &mut [u8], at: usize, n: usize, x: u32)
 
 // Stores a number in so many places, with at least so many digits. A number that is not below `full` has a digit for
 // each place; a smaller one leaves the first place empty, so that its digits always fit.
+#[inline(always)]
 pub(crate) fn put_number(out: &mut [u8], at: usize, width: usize, full: u32, least: usize, x: u32)
     requires { (width ≤ length out.old - at) × (full ≡ 10 ^ (width - 1)) × (1 ≤ least) × (least < width) }
     ensures { out.new ≡ sets out.old at (shown_in width least x) }

@@ -4,12 +4,12 @@ use mathlib.Core.Path.{◌≡◌}
 use Prim.Native.Nat.{◌^◌, ◌<◌}
 use lib.ListN.{drop}
 use Rattle.decimal.specs.Decimal.{worth_after, worth}
-use Rattle.digits.specs.Field.{are_digits}
+use Rattle.digits.specs.Field.{are_digits, rest}
 use Rattle.plsread.proofs.number.read_number.Given as goal
 
-abbrev pub invariant-loop-b : goal.invariant-loop-b
-invariant-loop-b l = record {
-  room : l.x < 10 ^ l.b-index;
-  digits : are_digits (drop l.b-index l.digits) ≡ are_digits l.digits;
-  value : worth_after l.x (drop l.b-index l.digits) ≡ worth l.digits;
+abbrev pub invariant-loop-i : goal.invariant-loop-i
+invariant-loop-i l = record {
+  room : l.x < 10 ^ l.i;
+  digits : are_digits (drop l.i l.s) ≡ are_digits (rest l.s);
+  value : worth_after l.x (drop l.i l.s) ≡ worth (rest l.s);
 }
