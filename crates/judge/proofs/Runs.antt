@@ -3,50 +3,35 @@
 use mathlib.Core.Path.{◌≡◌, refl, ap, sym, ◌∙◌}
 use mathlib.Core.Bool.{Bool, true, ◌&&◌, ◌||◌, and-true, and_assoc}
 use mathlib.Core.List.{List, [], ◌∷◌, ◌++◌}
-use Prim.Native.Nat.{ℕ, ◌+◌, ◌-◌, ◌≤◌}
+use Prim.Native.Nat.{ℕ, ◌+◌}
 use native.Mathlib.Nat.{add-zero}
-use native.Mathlib.Numerals.{add-one}
-use native.Mathlib.Omega.{arith}
 use lib.Dec.{eqb}
-use lib.ListN.{length, take, drop, get_or, length-drop, take-append-drop}
-use lib.Seq.{length-take-le}
+use lib.ListN.{get_or}
+use Rattle.std.specs.List.{fold}
 use Rattle.octets.specs.Run.{tab, part, all}
-use Rattle.octets.proofs.Laws.{part_snoc}
-use Rattle.octets.proofs.Trips.{here, all_append}
+use Rattle.octets.proofs.Trips.{all_append}
 use Rattle.editions.specs.declared.Edition.{Edition}
 use Rattle.editions.specs.declared.Edition.TheVariants.{NlsPlus, Pls}
 use Rattle.editions.specs.Editions.{reports}
-use Rattle.layout.specs.Tables.{lacked}
+use Rattle.kinds.specs.declared.Kind.{Kind}
+use Rattle.kinds.specs.declared.Kind.TheVariants.{Event, Trade, Cancel, Correction, Summary}
+use Rattle.layout.specs.Carrying.{runs}
+use Rattle.layout.specs.Tables.{Layout, lacked}
 use Rattle.records.specs.Held.{kept, lawful}
 use Rattle.records.specs.Packed.{slots, record_of}
 use Rattle.records.proofs.Again.{judged}
 use Rattle.rules.specs.Rules as Rules
 use Rattle.packing.specs.Layouts as Plus
-use Rattle.packing.specs.Layouts.{layout_j}
 use Rattle.pls.specs.Layouts as Ascii
-use Rattle.formats.specs.Formats.{layout_s, layout_t, layout_c}
+use Rattle.formats.specs.Formats.{layout_of}
+use Rattle.judge.specs.Judged.{kept_in, lawful_in}
 
 -- ---- runs
 
--- a part lent to a call, as a run
-pub lent : (m : List ℕ) (at to n : ℕ) → to - at ≡ n → at + n ≤ length m → take (to - at) (drop at m) ≡ part m at n
-lent m at to n e h =
-    let d = drop at m in
-    let l : n ≤ length d = rw length-drop (omega arith) in
-    rw e (sym (here m at n (take n d) (drop n d) (sym (take-append-drop n d)) (length-take-le n d l)))
-
-pub none_yet : (m : List ℕ) (at : ℕ) → true ≡ all 0 (part m at 0)
-unfolding part tab
-none_yet m at = refl
-
--- one byte more
-pub none_turn : (m : List ℕ) (at i : ℕ) → all 0 (part m at i) && eqb (get_or m (at + i) 0) 0 ≡ all 0 (part m at (i + 1))
-none_turn m at i =
-    let z = get_or m (at + i) 0 in
-    ap (λ (t : Bool). all 0 (part m at i) && t) (sym (and-true (eqb z 0)))
-    ∙ sym (all_append 0 (part m at i) (z ∷ []))
-    ∙ ap (λ (xs : List ℕ). all 0 xs) (sym (part_snoc m at i))
-    ∙ ap (λ (k : ℕ). all 0 (part m at k)) (sym (add-one i))
+-- as a walk over the bytes asks them
+pub none_walked : (t : Bool) (xs : List ℕ) → fold (λ a x. a && eqb x 0) t xs ≡ t && all 0 xs
+none_walked t [] = sym (and-true t)
+none_walked t (x ∷ xs) = none_walked (t && eqb x 0) xs ∙ and_assoc t (eqb x 0) (all 0 xs)
 
 -- four bytes as a run
 pub four_bytes : (m : List ℕ) (at : ℕ)
@@ -56,39 +41,50 @@ four_bytes m at = rw (add-zero at)
 
 -- ---- the fields that each layout lacks, as runs
 
--- two runs behind a test
-two : (t : Bool) (xs ys : List ℕ) → t && all 0 xs && all 0 ys ≡ t && all 0 (xs ++ ys)
-two t xs ys = and_assoc t (all 0 xs) (all 0 ys) ∙ ap (λ (x : Bool). t && x) (sym (all_append 0 xs ys))
+-- two runs, and three
+two : (xs ys : List ℕ) → all 0 xs && all 0 ys && true ≡ all 0 (xs ++ ys)
+two xs ys = and-true (all 0 xs && all 0 ys) ∙ sym (all_append 0 xs ys)
 
--- and three, of which the last two stand behind each other
-three : (t : Bool) (xs ys zs : List ℕ) → t && all 0 xs && all 0 ys && all 0 zs ≡ t && all 0 (xs ++ (ys ++ zs))
-three t xs ys zs =
-    and_assoc (t && all 0 xs) (all 0 ys) (all 0 zs)
-    ∙ ap (λ (x : Bool). t && all 0 xs && x) (sym (all_append 0 ys zs))
-    ∙ two t xs (ys ++ zs)
+three : (xs ys zs : List ℕ) → all 0 xs && all 0 ys && all 0 zs ≡ all 0 (xs ++ (ys ++ zs))
+three xs ys zs =
+    and_assoc (all 0 xs) (all 0 ys) (all 0 zs)
+    ∙ ap (λ (t : Bool). all 0 xs && t) (sym (all_append 0 ys zs))
+    ∙ sym (all_append 0 xs (ys ++ zs))
 
 module _ (b : List ℕ) where
-  pub s_said : (e : Edition) → kept (layout_s e) (record_of b) && all 0 (part b 6 74) ≡ lawful (layout_s e) (record_of b)
-  unfolding part tab slots lacked Plus.layout_s Ascii.layout_s
-  s_said NlsPlus = judged Plus.layout_s b
-  s_said Pls = judged Ascii.layout_s b
+  -- a test besides the rules of a layout's fields, and what it amounts to
+  besides : (l : Layout) (t : Bool) → t ≡ all 0 (runs slots b (lacked l)) → kept l (record_of b) && t ≡ lawful l (record_of b)
+  besides l t e = ap (λ (x : Bool). kept l (record_of b) && x) e ∙ judged l b
+
+  -- and the same of a type's
+  abbrev Besides : Edition → Kind → Bool → Type 0
+  Besides e k t = kept_in (layout_of e k) (record_of b) && t ≡ lawful_in (layout_of e k) (record_of b)
 
   -- a volume is asked where the edition has none
   abbrev unreported : Edition → Bool
   unreported e = reports e || all 0 (part b 72 8)
 
-  pub t_said : (e : Edition) (k : ℕ)
-      → kept (layout_t e k) (record_of b) && all 0 (part b 5 1) && all 0 (part b 38 34) && unreported e ≡ lawful (layout_t e k) (record_of b)
+  pub s_said : (e : Edition) → Besides e Event (all 0 (part b 6 74))
+  unfolding part tab slots lacked Plus.layout_s Ascii.layout_s
+  s_said NlsPlus = besides Plus.layout_s _ refl
+  s_said Pls = besides Ascii.layout_s _ refl
+
+  pub t_said : (e : Edition) → Besides e Trade (all 0 (part b 5 1) && all 0 (part b 38 34) && unreported e)
   unfolding part tab slots lacked Plus.layout_t Ascii.layout_t
-  t_said NlsPlus k = and-true _ ∙ two (kept (Plus.layout_t k) (record_of b)) (part b 5 1) (part b 38 34) ∙ judged (Plus.layout_t k) b
-  t_said Pls k = three (kept (Ascii.layout_t k) (record_of b)) (part b 5 1) (part b 38 34) (part b 72 8) ∙ judged (Ascii.layout_t k) b
+  t_said NlsPlus = besides (Plus.layout_t 84) _ (two (part b 5 1) (part b 38 34))
+  t_said Pls = besides (Ascii.layout_t 84) _ (three (part b 5 1) (part b 38 34) (part b 72 8))
 
-  pub c_said : (e : Edition)
-      → kept (layout_c e) (record_of b) && all 0 (part b 5 1) && all 0 (part b 60 12) && unreported e ≡ lawful (layout_c e) (record_of b)
+  pub x_said : (e : Edition) → Besides e Cancel (all 0 (part b 5 1) && all 0 (part b 38 34) && unreported e)
+  unfolding part tab slots lacked Plus.layout_t Ascii.layout_t
+  x_said NlsPlus = besides (Plus.layout_t 88) _ (two (part b 5 1) (part b 38 34))
+  x_said Pls = besides (Ascii.layout_t 88) _ (three (part b 5 1) (part b 38 34) (part b 72 8))
+
+  pub c_said : (e : Edition) → Besides e Correction (all 0 (part b 5 1) && all 0 (part b 60 12) && unreported e)
   unfolding part tab slots lacked Plus.layout_c Ascii.layout_c
-  c_said NlsPlus = and-true _ ∙ two (kept Plus.layout_c (record_of b)) (part b 5 1) (part b 60 12) ∙ judged Plus.layout_c b
-  c_said Pls = three (kept Ascii.layout_c (record_of b)) (part b 5 1) (part b 60 12) (part b 72 8) ∙ judged Ascii.layout_c b
+  c_said NlsPlus = besides Plus.layout_c _ (two (part b 5 1) (part b 60 12))
+  c_said Pls = besides Ascii.layout_c _ (three (part b 5 1) (part b 60 12) (part b 72 8))
 
-  pub j_said : kept layout_j (record_of b) && all 0 (part b 5 2) && all 0 (part b 16 44) ≡ lawful layout_j (record_of b)
-  unfolding part tab slots lacked layout_j
-  j_said = two (kept layout_j (record_of b)) (part b 5 2) (part b 16 44) ∙ judged layout_j b
+  pub j_said : (e : Edition) → Besides e Summary (all 0 (part b 5 2) && all 0 (part b 16 44))
+  unfolding part tab slots lacked Plus.layout_j
+  j_said NlsPlus = besides Plus.layout_j _ (sym (all_append 0 (part b 5 2) (part b 16 44)))
+  j_said Pls = refl

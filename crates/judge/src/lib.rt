@@ -1,15 +1,14 @@
 // Whether a record keeps the rules of its type, asked of its eighty bytes, so that no record is copied to be judged.
 #![tactic(auto)]
 
-ghost use Rattle.std.specs.Prelude.{◌≡◌, ◌||◌, ◌+◌, ◌≤◌, length};
+ghost use Rattle.std.specs.Prelude.{◌≡◌, ◌&&◌, ◌||◌, ◌+◌, ◌≤◌, length};
 ghost use Rattle.octets.specs.Run.{part, all};
 ghost use Rattle.editions.specs.Editions.{reports};
-ghost use Rattle.kinds.specs.declared.Kind.TheVariants.{Summary};
 ghost use Rattle.rules.specs.Rules as Rules;
 ghost use Rattle.records.specs.Held as Held;
 ghost use Rattle.records.specs.Packed.{record_length, record_of};
 ghost use Rattle.packing.specs.Layouts.{layout_j};
-ghost use Rattle.formats.specs.Formats.{layout_s, layout_t, layout_c, layout_of};
+ghost use Rattle.formats.specs.Formats.{layout_s, layout_c, layout_of};
 ghost use Rattle.judge.specs.Judged.{kept_in, lawful_in, trade_rules, sale_rules};
 
 use editions::{Edition, does_report};
@@ -26,13 +25,9 @@ fn none(b: &[u8; RECORD], at: usize, n: usize) -> bool
     requires { at + n ≤ record_length }
     ensures { result ≡ all 0 (part b.now at n) }
 {
-    let mut clear = true;
-    let mut i: usize = 0;
-    while i < n {
-        clear = clear & (b[at + i] == 0);
-        i += 1;
-    }
-    clear
+    b[at..at + n]
+        .iter()
+        .fold(true, |clear, x| clear & (*x == 0))
 }
 
 // Whether n bytes are a text.
@@ -56,11 +51,7 @@ fn condition(b: &[u8; RECORD], at: usize) -> bool
 fn volume_ok(edition: Edition, b: &[u8; RECORD]) -> bool
     ensures { result ≡ (reports edition || all 0 (part b.now 72 8)) }
 {
-    if does_report(edition) {
-        true
-    } else {
-        none(b, CONSOLIDATED, VOLUME)
-    }
+    does_report(edition) || none(b, CONSOLIDATED, VOLUME)
 }
 
 // The rules of the trade that stands from a place on, behind another test. Its price and its size are read by the
@@ -90,21 +81,15 @@ fn trade_ok(edition: Edition, b: &[u8; RECORD], letter: u8) -> bool
     sale_ok(edition, b, head, OLD_SALE, price, size)
 }
 
-// The rules of the fields that each type has.
-fn kept_s(edition: Edition, b: &[u8; RECORD]) -> bool
+// The rules of the fields that an S has.
+fn event_kept(edition: Edition, b: &[u8; RECORD]) -> bool
     ensures { result ≡ Held.kept (layout_s edition) (record_of b.now) }
 {
     time_ok(number4(b, TIME)) & (b[LETTER] == S_LETTER) & event_ok(b[EVENT])
 }
 
-// T and X: the volume has no rule.
-fn kept_t(edition: Edition, b: &[u8; RECORD], letter: u8) -> bool
-    ensures { result ≡ Held.kept (layout_t edition letter) (record_of b.now) }
-{
-    trade_ok(edition, b, letter)
-}
-
-fn kept_c(edition: Edition, b: &[u8; RECORD]) -> bool
+// Those of a C: of what it has in common with a T, and of the new trade.
+fn correction_kept(edition: Edition, b: &[u8; RECORD]) -> bool
     ensures { result ≡ Held.kept (layout_c edition) (record_of b.now) }
 {
     let head = trade_ok(edition, b, C_LETTER);
@@ -113,8 +98,8 @@ fn kept_c(edition: Edition, b: &[u8; RECORD]) -> bool
     sale_ok(edition, b, head, NEW_SALE, price, size)
 }
 
-// NLS Plus alone has a J.
-fn kept_j(b: &[u8; RECORD]) -> bool
+// Those of a J, which NLS Plus alone has.
+fn summary_kept(b: &[u8; RECORD]) -> bool
     ensures { result ≡ Held.kept layout_j (record_of b.now) }
 {
     time_ok(number4(b, TIME))
@@ -126,62 +111,35 @@ fn kept_j(b: &[u8; RECORD]) -> bool
         & summary_price_ok(number4(b, CLOSE))
 }
 
-fn kept_summary(edition: Edition, b: &[u8; RECORD]) -> bool
-    ensures { result ≡ kept_in (layout_of edition Summary) (record_of b.now) }
-{
-    match edition {
-        Edition::NlsPlus => kept_j(b),
-        Edition::Pls => false,
-    }
-}
-
 // Whether a record bears a type's letter and keeps the rules of the fields that the type has, whatever stands in the
-// others: for a reader, who has just put zeros there.
+// others: for a reader, who has just put zeros there. The volume of a T, an X and a C has no rule.
+#[inline(always)]
 pub fn kept(edition: Edition, b: &[u8; RECORD], kind: Kind) -> bool
     ensures { result ≡ kept_in (layout_of edition kind) (record_of b.now) }
 {
     match kind {
-        Kind::Event => kept_s(edition, b),
-        Kind::Trade => kept_t(edition, b, T_LETTER),
-        Kind::Cancel => kept_t(edition, b, X_LETTER),
-        Kind::Correction => kept_c(edition, b),
-        Kind::Summary => kept_summary(edition, b),
+        Kind::Event => event_kept(edition, b),
+        Kind::Trade => trade_ok(edition, b, T_LETTER),
+        Kind::Cancel => trade_ok(edition, b, X_LETTER),
+        Kind::Correction => correction_kept(edition, b),
+        Kind::Summary => matches!(edition, Edition::NlsPlus) && summary_kept(b),
         Kind::Other => false,
     }
 }
 
-// Each type's rules, and then the bytes of the fields that it lacks.
-fn lawful_s(edition: Edition, b: &[u8; RECORD]) -> bool
-    ensures { result ≡ Held.lawful (layout_s edition) (record_of b.now) }
+// Whether a record has nothing in the fields that a type lacks: what is asked of it besides `kept` for it to be lawful.
+fn is_bare(edition: Edition, b: &[u8; RECORD], kind: Kind) -> bool
+    ensures { (kept_in (layout_of edition kind) (record_of b.now) && result)
+        ≡ lawful_in (layout_of edition kind) (record_of b.now) }
 {
-    kept_s(edition, b) & none(b, CENTRE, 74)
-}
-
-// T and X.
-fn lawful_t(edition: Edition, b: &[u8; RECORD], letter: u8) -> bool
-    ensures { result ≡ Held.lawful (layout_t edition letter) (record_of b.now) }
-{
-    kept_t(edition, b, letter) & none(b, EVENT, 1) & none(b, NEW_SALE, 34) & volume_ok(edition, b)
-}
-
-fn lawful_c(edition: Edition, b: &[u8; RECORD]) -> bool
-    ensures { result ≡ Held.lawful (layout_c edition) (record_of b.now) }
-{
-    kept_c(edition, b) & none(b, EVENT, 1) & none(b, HIGH, 12) & volume_ok(edition, b)
-}
-
-fn lawful_j(b: &[u8; RECORD]) -> bool
-    ensures { result ≡ Held.lawful layout_j (record_of b.now) }
-{
-    kept_j(b) & none(b, EVENT, 2) & none(b, OLD_SALE, 44)
-}
-
-fn lawful_summary(edition: Edition, b: &[u8; RECORD]) -> bool
-    ensures { result ≡ lawful_in (layout_of edition Summary) (record_of b.now) }
-{
-    match edition {
-        Edition::NlsPlus => lawful_j(b),
-        Edition::Pls => false,
+    match kind {
+        Kind::Event => none(b, CENTRE, 74),
+        Kind::Trade | Kind::Cancel => {
+            none(b, EVENT, 1) & none(b, NEW_SALE, 34) & volume_ok(edition, b)
+        }
+        Kind::Correction => none(b, EVENT, 1) & none(b, HIGH, 12) & volume_ok(edition, b),
+        Kind::Summary => none(b, EVENT, 2) & none(b, OLD_SALE, 44),
+        Kind::Other => false,
     }
 }
 
@@ -190,12 +148,5 @@ fn lawful_summary(edition: Edition, b: &[u8; RECORD]) -> bool
 pub fn lawful(edition: Edition, b: &[u8; RECORD], kind: Kind) -> bool
     ensures { result ≡ lawful_in (layout_of edition kind) (record_of b.now) }
 {
-    match kind {
-        Kind::Event => lawful_s(edition, b),
-        Kind::Trade => lawful_t(edition, b, T_LETTER),
-        Kind::Cancel => lawful_t(edition, b, X_LETTER),
-        Kind::Correction => lawful_c(edition, b),
-        Kind::Summary => lawful_summary(edition, b),
-        Kind::Other => false,
-    }
+    kept(edition, b, kind) & is_bare(edition, b, kind)
 }

@@ -1,9 +1,9 @@
--- What is copied is what the tables say.
+-- What is moved is what the tables say.
 -- Assumes nothing.
 use mathlib.Core.Path.{◌≡◌, refl, ap}
 use mathlib.Core.List.{List}
 use Prim.Native.Nat.{ℕ}
-use lib.ListN.{get_or, set, replicate}
+use lib.ListN.{replicate}
 use lib.Seq.{sets}
 use Rattle.octets.specs.Run.{tab, part, Bytes}
 use Rattle.numbers.specs.Number.{digits}
@@ -12,50 +12,58 @@ use Rattle.layout.specs.Tables.{tiles}
 use Rattle.records.specs.Held.{read_by, write_by}
 use Rattle.records.specs.Packed.{slots, record_bytes, record_of}
 use Rattle.records.proofs.Again.{filled, told}
+use Rattle.packing.specs.declared.Form.{Form}
 use Rattle.packing.specs.Layouts.{layout_s, layout_t, layout_c, layout_j}
+use Rattle.packing.specs.Moves.{unpacked, stored}
 
--- ---- read: put over eighty zeros, the pieces of a message are its record's bytes
+-- ---- the forms of the types, as the code has them
+
+abbrev pub form_s : Form
+form_s = record { body = record { packed = 5; message = 5; width = 1 }; rest = record { packed = 80; message = 6; width = 0 } }
+
+abbrev pub form_t : Form
+form_t = record { body = record { packed = 6; message = 5; width = 32 }; rest = record { packed = 72; message = 37; width = 8 } }
+
+abbrev pub form_c : Form
+form_c = record { body = record { packed = 6; message = 5; width = 54 }; rest = record { packed = 72; message = 59; width = 8 } }
+
+abbrev pub form_j : Form
+form_j = record { body = record { packed = 7; message = 5; width = 9 }; rest = record { packed = 60; message = 14; width = 20 } }
+
+-- ---- read: put over eighty zeros, a message is its record's bytes
 
 module _ (m : List ℕ) (g : Bytes m) where
-  -- a letter and a time over eighty zeros
-  abbrev pub begun : List ℕ
-  begun = sets (set (replicate 80 0) 0 (get_or m 4 0)) 1 (part m 0 4)
-
-  pub s_filled : set begun 5 (get_or m 5 0) ≡ record_bytes (read_by layout_s m)
+  pub s_filled : unpacked form_s (replicate 80 0) m ≡ record_bytes (read_by layout_s m)
   unfolding part tab digits slots room_of tiles layout_s
   s_filled = filled layout_s refl m g
 
-  pub t_filled : sets (sets begun 6 (part m 5 32)) 72 (part m 37 8) ≡ record_bytes (read_by (layout_t 84) m)
+  pub t_filled : (k : ℕ) → unpacked form_t (replicate 80 0) m ≡ record_bytes (read_by (layout_t k) m)
   unfolding part tab digits slots room_of tiles layout_t
-  t_filled = filled (layout_t 84) refl m g
+  t_filled k = filled (layout_t k) refl m g
 
-  pub c_filled : sets (sets begun 6 (part m 5 54)) 72 (part m 59 8) ≡ record_bytes (read_by layout_c m)
+  pub c_filled : unpacked form_c (replicate 80 0) m ≡ record_bytes (read_by layout_c m)
   unfolding part tab digits slots room_of tiles layout_c
   c_filled = filled layout_c refl m g
 
-  pub j_filled : sets (sets begun 7 (part m 5 9)) 60 (part m 14 20) ≡ record_bytes (read_by layout_j m)
+  pub j_filled : unpacked form_j (replicate 80 0) m ≡ record_bytes (read_by layout_j m)
   unfolding part tab digits slots room_of tiles layout_j
   j_filled = filled layout_j refl m g
 
--- ---- write: the pieces of a record's bytes, one behind the other, are its message
+-- ---- write: a record's bytes, put into a message, are what its table writes
 
 module _ (b : List ℕ) (g : Bytes b) (out : List ℕ) where
-  -- a time and a letter at the front
-  abbrev pub fronted : List ℕ
-  fronted = set (sets out 0 (part b 1 4)) 4 (get_or b 0 0)
-
-  pub s_put : set fronted 5 (get_or b 5 0) ≡ sets out 0 (write_by layout_s (record_of b))
+  pub s_put : stored form_s out b ≡ sets out 0 (write_by layout_s (record_of b))
   unfolding part tab slots layout_s
   s_put = ap (sets out 0) (told layout_s b g)
 
-  pub t_put : sets (sets fronted 5 (part b 6 32)) 37 (part b 72 8) ≡ sets out 0 (write_by (layout_t 84) (record_of b))
+  pub t_put : (k : ℕ) → stored form_t out b ≡ sets out 0 (write_by (layout_t k) (record_of b))
   unfolding part tab slots layout_t
-  t_put = ap (sets out 0) (told (layout_t 84) b g)
+  t_put k = ap (sets out 0) (told (layout_t k) b g)
 
-  pub c_put : sets (sets fronted 5 (part b 6 54)) 59 (part b 72 8) ≡ sets out 0 (write_by layout_c (record_of b))
+  pub c_put : stored form_c out b ≡ sets out 0 (write_by layout_c (record_of b))
   unfolding part tab slots layout_c
   c_put = ap (sets out 0) (told layout_c b g)
 
-  pub j_put : sets (sets fronted 5 (part b 7 9)) 14 (part b 60 20) ≡ sets out 0 (write_by layout_j (record_of b))
+  pub j_put : stored form_j out b ≡ sets out 0 (write_by layout_j (record_of b))
   unfolding part tab slots layout_j
   j_put = ap (sets out 0) (told layout_j b g)

@@ -1,2 +1,3 @@
 pub mod Layouts
 pub mod Packing
+pub mod Moves

@@ -1,13 +1,14 @@
 // The layouts of NLS Plus 2.0 at work: the fields of a message moved to their places in the eighty bytes of a record
 // (`records::packed`), and back. What each contract says is computed from the layout of the type
-// (`specs/Layouts.antt`); the code is straight-line, one function for a type and a way.
+// (`specs/Layouts.antt`); the code knows of each type which runs of bytes stand in both.
 #![tactic(auto)]
 
-ghost use Rattle.std.specs.Prelude.{◌≡◌, replicate};
+ghost use Rattle.std.specs.Prelude.{◌≡◌};
 ghost use Rattle.std.proofs.lemmas.List.Edits.{sets};
-ghost use Rattle.records.specs.Held.{read_by, write_by, filled_in, bytes_in};
-ghost use Rattle.records.specs.Packed.{record_length, record_of, record_bytes};
-ghost use Rattle.packing.specs.Layouts.{layout_s, layout_t, layout_c, layout_j, layout_of};
+ghost use Rattle.records.specs.Held.{filled_in, bytes_in};
+ghost use Rattle.records.specs.Packed.{record_of, record_bytes};
+ghost use Rattle.packing.specs.Layouts.{layout_of};
+ghost use Rattle.packing.specs.Moves.{unpacked, stored};
 ghost use Rattle.packing.specs.Packing.{length_of};
 
 use copies::{copy_byte, copy_four, copy_run};
@@ -30,24 +31,77 @@ pub const M_LETTER: usize = 4;
 
 const M_BODY: usize = 5;
 
-// Centre to condition in T, X and C: 32 bytes; with the new trade of a C 54.
-const TRADE: usize = 32;
+// Fields that stand side by side, in the eighty bytes of a record and in a message: they are copied as one run.
+#[derive(Clone, Copy)]
+struct Run {
+    packed: usize,
+    message: usize,
+    width: usize,
+}
 
-const TRADES: usize = 54;
+// What the messages of a type have behind time and letter, which stand alike in every type: a run, and another behind
+// it.
+#[derive(Clone, Copy)]
+struct Form {
+    body: Run,
+    rest: Run,
+}
 
-// Symbol and class, and the three prices and the volume, of a J.
-const NAMED: usize = 9;
+// S: its event, and nothing behind it.
+const EVENT_FORM: Form = Form {
+    body: Run {
+        packed: EVENT,
+        message: M_BODY,
+        width: 1,
+    },
+    rest: Run {
+        packed: RECORD,
+        message: S_LENGTH,
+        width: 0,
+    },
+};
 
-const FIGURES: usize = 20;
+// T and X: centre to condition, and the consolidated volume.
+const TRADE_FORM: Form = Form {
+    body: Run {
+        packed: CENTRE,
+        message: M_BODY,
+        width: 32,
+    },
+    rest: Run {
+        packed: CONSOLIDATED,
+        message: 37,
+        width: 8,
+    },
+};
 
-const J_HIGH: usize = 14;
+// C: the same with the new trade behind the original.
+const CORRECTION_FORM: Form = Form {
+    body: Run {
+        packed: CENTRE,
+        message: M_BODY,
+        width: 54,
+    },
+    rest: Run {
+        packed: CONSOLIDATED,
+        message: 59,
+        width: 8,
+    },
+};
 
-// The consolidated volume of T and X, and of C.
-const VOLUME: usize = 8;
-
-const T_VOLUME: usize = 37;
-
-const C_VOLUME: usize = 59;
+// J: symbol and class, and the three prices with the volume.
+const SUMMARY_FORM: Form = Form {
+    body: Run {
+        packed: SYMBOL,
+        message: M_BODY,
+        width: 9,
+    },
+    rest: Run {
+        packed: HIGH,
+        message: 14,
+        width: 20,
+    },
+};
 
 // The length of a type's messages; 0 for what is no type.
 pub fn length_of(kind: Kind) -> usize
@@ -62,46 +116,16 @@ pub fn length_of(kind: Kind) -> usize
     }
 }
 
-// Each type's fields, put over eighty zeros. Fields that stand side by side in a message and in the eighty bytes are
-// copied as one run.
-fn unpack_s(b: &mut [u8], m: &[u8])
-    requires { b.old ≡ replicate record_length 0 }
-    ensures { b.new ≡ record_bytes (read_by layout_s m.now) }
+// Puts the fields of a message into the eighty bytes of a record, by the form of its type. Each caller names the form,
+// so that the compiler knows the widths of the copies.
+#[inline(always)]
+fn unpack_form(b: &mut [u8], m: &[u8], form: Form)
+    ensures { b.new ≡ unpacked form b.old m.now }
 {
     copy_byte(b, LETTER, m, M_LETTER);
     copy_four(b, TIME, m, M_TIME);
-    copy_byte(b, EVENT, m, M_BODY);
-}
-
-// T and X: whichever of the two letters it is, the fields stand where those of a T (84) do.
-fn unpack_t(b: &mut [u8], m: &[u8])
-    requires { b.old ≡ replicate record_length 0 }
-    ensures { b.new ≡ record_bytes (read_by (layout_t 84) m.now) }
-{
-    copy_byte(b, LETTER, m, M_LETTER);
-    copy_four(b, TIME, m, M_TIME);
-    copy_run(b, CENTRE, m, M_BODY, TRADE);
-    copy_run(b, CONSOLIDATED, m, T_VOLUME, VOLUME);
-}
-
-fn unpack_c(b: &mut [u8], m: &[u8])
-    requires { b.old ≡ replicate record_length 0 }
-    ensures { b.new ≡ record_bytes (read_by layout_c m.now) }
-{
-    copy_byte(b, LETTER, m, M_LETTER);
-    copy_four(b, TIME, m, M_TIME);
-    copy_run(b, CENTRE, m, M_BODY, TRADES);
-    copy_run(b, CONSOLIDATED, m, C_VOLUME, VOLUME);
-}
-
-fn unpack_j(b: &mut [u8], m: &[u8])
-    requires { b.old ≡ replicate record_length 0 }
-    ensures { b.new ≡ record_bytes (read_by layout_j m.now) }
-{
-    copy_byte(b, LETTER, m, M_LETTER);
-    copy_four(b, TIME, m, M_TIME);
-    copy_run(b, SYMBOL, m, M_BODY, NAMED);
-    copy_run(b, HIGH, m, J_HIGH, FIGURES);
+    copy_run(b, form.body.packed, m, form.body.message, form.body.width);
+    copy_run(b, form.rest.packed, m, form.rest.message, form.rest.width);
 }
 
 // The eighty bytes of the record that a message of a type fills, before any rule is asked: a field that the type lacks
@@ -111,49 +135,23 @@ pub fn unpack(b: &mut [u8; RECORD], m: &[u8], kind: Kind)
 {
     *b = [0u8; RECORD];
     match kind {
-        Kind::Event => unpack_s(b, m),
-        Kind::Trade | Kind::Cancel => unpack_t(b, m),
-        Kind::Correction => unpack_c(b, m),
-        Kind::Summary => unpack_j(b, m),
+        Kind::Event => unpack_form(b, m, EVENT_FORM),
+        Kind::Trade | Kind::Cancel => unpack_form(b, m, TRADE_FORM),
+        Kind::Correction => unpack_form(b, m, CORRECTION_FORM),
+        Kind::Summary => unpack_form(b, m, SUMMARY_FORM),
         Kind::Other => {}
     }
 }
 
-// The message of each type, stored from the eighty bytes of its record.
-fn put_s(out: &mut [u8], b: &[u8])
-    ensures { out.new ≡ sets out.old 0 (write_by layout_s (record_of b.now)) }
+// The same way back: the fields of a record put into a message.
+#[inline(always)]
+fn store_form(out: &mut [u8], b: &[u8], form: Form)
+    ensures { out.new ≡ stored form out.old b.now }
 {
     copy_four(out, M_TIME, b, TIME);
     copy_byte(out, M_LETTER, b, LETTER);
-    copy_byte(out, M_BODY, b, EVENT);
-}
-
-// T and X.
-fn put_t(out: &mut [u8], b: &[u8])
-    ensures { out.new ≡ sets out.old 0 (write_by (layout_t 84) (record_of b.now)) }
-{
-    copy_four(out, M_TIME, b, TIME);
-    copy_byte(out, M_LETTER, b, LETTER);
-    copy_run(out, M_BODY, b, CENTRE, TRADE);
-    copy_run(out, T_VOLUME, b, CONSOLIDATED, VOLUME);
-}
-
-fn put_c(out: &mut [u8], b: &[u8])
-    ensures { out.new ≡ sets out.old 0 (write_by layout_c (record_of b.now)) }
-{
-    copy_four(out, M_TIME, b, TIME);
-    copy_byte(out, M_LETTER, b, LETTER);
-    copy_run(out, M_BODY, b, CENTRE, TRADES);
-    copy_run(out, C_VOLUME, b, CONSOLIDATED, VOLUME);
-}
-
-fn put_j(out: &mut [u8], b: &[u8])
-    ensures { out.new ≡ sets out.old 0 (write_by layout_j (record_of b.now)) }
-{
-    copy_four(out, M_TIME, b, TIME);
-    copy_byte(out, M_LETTER, b, LETTER);
-    copy_run(out, M_BODY, b, SYMBOL, NAMED);
-    copy_run(out, J_HIGH, b, HIGH, FIGURES);
+    copy_run(out, form.body.message, b, form.body.packed, form.body.width);
+    copy_run(out, form.rest.message, b, form.rest.packed, form.rest.width);
 }
 
 // Stores the message of a type at the front of out, from the eighty bytes of a record; what is no type has none.
@@ -161,10 +159,10 @@ pub fn store(out: &mut [u8], b: &[u8], k: Kind)
     ensures { out.new ≡ sets out.old 0 (bytes_in (layout_of k) (record_of b.now)) }
 {
     match k {
-        Kind::Event => put_s(out, b),
-        Kind::Trade | Kind::Cancel => put_t(out, b),
-        Kind::Correction => put_c(out, b),
-        Kind::Summary => put_j(out, b),
+        Kind::Event => store_form(out, b, EVENT_FORM),
+        Kind::Trade | Kind::Cancel => store_form(out, b, TRADE_FORM),
+        Kind::Correction => store_form(out, b, CORRECTION_FORM),
+        Kind::Summary => store_form(out, b, SUMMARY_FORM),
         Kind::Other => {}
     }
 }

@@ -1,6 +1,6 @@
 -- What `plsread` and `plswrite` both use: how long messages are, and runs of bytes stored one behind the other.
 -- Assumes nothing.
-use mathlib.Core.Path.{◌≡◌, subst, ◌∙◌}
+use mathlib.Core.Path.{◌≡◌, ◌∙◌}
 use mathlib.Core.List.{List, ◌++◌}
 use Prim.Native.Nat.{ℕ, ◌+◌, ◌≤◌}
 use native.Mathlib.Omega.{arith}
@@ -19,10 +19,6 @@ longest Cancel = omega arith
 longest Correction = omega arith
 longest Summary = omega arith
 longest Other = omega arith
-
--- what a type takes, a type that is found to be the same takes
-pub takes : {j k : Kind} (n : ℕ) → k ≡ j → length_of k ≤ n → length_of j ≤ n
-takes n e h = subst (λ (i : Kind). length_of i ≤ n) e h
 
 -- four runs stored one behind the other
 pub four_runs : (A B C D l : List ℕ) (at p q r : ℕ) → at + length A ≡ p → p + length B ≡ q → q + length C ≡ r

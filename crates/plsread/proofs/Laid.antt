@@ -1,7 +1,7 @@
 -- A message read in pieces is read by its layout.
 -- Assumes nothing.
 use mathlib.Core.Path.{◌≡◌, refl, sym}
-use mathlib.Core.Bool.{Bool, ◌&&◌, and-true}
+use mathlib.Core.Bool.{and-true}
 use mathlib.Core.List.{List}
 use Prim.Native.Nat.{ℕ, ◌+◌, ◌/◌, ◌%◌}
 use native.Mathlib.Omega.{arith}
@@ -21,7 +21,7 @@ use Rattle.records.specs.Packed.{slots, record_bytes}
 use Rattle.records.proofs.Again.{filled}
 use Rattle.pls.specs.Layouts.{layout_s, layout_t, layout_c, layout_of}
 use Rattle.pls.proofs.Laws.{four_runs}
-use Rattle.plsread.specs.Moved.{storable, price_at, size_at, sale_moved, sale_ready}
+use Rattle.plsread.specs.Moved.{price_at, size_at, sale_moved, sale_ready, head_moved, head_ready, trade_moved, trade_ready}
 
 -- ---- in pieces
 
@@ -39,7 +39,8 @@ low_four x =
 pub sale_moved_lem : (l m : List ℕ) (to at : ℕ)
     → let price = digits 4 (value_of 4 (price_at m at)) in
     let size = digits 4 (value_of 1 (size_at m at)) in
-    sets (sets (sets (sets l to (part m at 10)) (to + 10) price) (to + 14) size) (to + 18) (part m (at + 29) 4) ≡ sets l to (sale_moved m at)
+    sets (sets (sets (sets l to (part m at 10)) (to + 10) price) (to + 14) size) (to + 18) (part m (at + 29) 4)
+    ≡ sets l to (sale_moved m at)
 unfolding sale_moved
 sale_moved_lem l m to at =
     let price = digits 4 (value_of 4 (price_at m at)) in
@@ -50,32 +51,32 @@ sale_moved_lem l m to at =
 -- ---- read: put over eighty zeros, the pieces of a message are its record's bytes
 
 module _ (m : List ℕ) (g : Bytes m) where
-  -- a letter and a time over eighty zeros
-  abbrev pub begun : List ℕ
-  begun = sets (set (replicate 80 0) 0 (get_or m 8 0)) 1 (digits 4 (value_of 1 (part m 0 8)))
+  abbrev zeros : List ℕ
+  zeros = replicate 80 0
 
-  pub s_filled : set begun 5 (get_or m 9 0) ≡ record_bytes (read_by layout_s m)
+  pub s_filled : head_moved (set zeros 5 (get_or m 9 0)) m ≡ record_bytes (read_by layout_s m)
   unfolding part tab digits slots room_of tiles layout_s
   s_filled = filled layout_s refl m g
 
-  pub t_filled : sets (sets begun 6 (part m 9 10)) 16 (sale_moved m 19) ≡ record_bytes (read_by (layout_t 84) m)
+  pub t_filled : (k : ℕ) → trade_moved zeros m ≡ record_bytes (read_by (layout_t k) m)
   unfolding part tab digits slots room_of tiles layout_t sale_moved
-  t_filled = filled (layout_t 84) refl m g
+  t_filled k = filled (layout_t k) refl m g
 
-  pub c_filled : sets (sets (sets begun 6 (part m 9 10)) 16 (sale_moved m 19)) 38 (sale_moved m 52) ≡ record_bytes (read_by layout_c m)
+  pub c_filled : sets (trade_moved zeros m) 38 (sale_moved m 52) ≡ record_bytes (read_by layout_c m)
   unfolding part tab digits slots room_of tiles layout_c sale_moved
   c_filled = filled layout_c refl m g
 
-  -- and whether each can be stored is asked of the three numbers, or of the five
-  pub s_ready : storable 1 (part m 0 8) ≡ ready_by layout_s m
+-- and whether each can be stored is asked of the number, of the three or of the five
+module _ (m : List ℕ) where
+  pub s_ready : head_ready m ≡ ready_by layout_s m
   unfolding ready_by layout_s room_of
   s_ready = sym (simp and-true refl)
 
-  pub t_ready : sale_ready (storable 1 (part m 0 8)) m 19 ≡ ready_by (layout_t 84) m
+  pub t_ready : (k : ℕ) → trade_ready m ≡ ready_by (layout_t k) m
   unfolding ready_by layout_t room_of sale_ready
-  t_ready = sym (simp and-true refl)
+  t_ready k = sym (simp and-true refl)
 
-  pub c_ready : sale_ready (sale_ready (storable 1 (part m 0 8)) m 19) m 52 ≡ ready_by layout_c m
+  pub c_ready : sale_ready (trade_ready m) m 52 ≡ ready_by layout_c m
   unfolding ready_by layout_c room_of sale_ready
   c_ready = sym (simp and-true refl)
 

@@ -1,21 +1,20 @@
 // A message of PLS 1.1 read: its fields moved to their places in the eighty bytes of a record (`records::packed`). What
-// each contract says is computed from the layout of the type (`pls`); the code is straight-line, one function for a
-// type. Numbers are spelt in digits (`number`), and what is read says whether each of them can be stored: whether its
-// bytes spell a number of 32 bits.
+// each contract says is computed from the layout of the type (`pls`). Numbers are spelt in digits (`number`), and what
+// is read says whether each of them can be stored: whether its bytes spell a number of 32 bits.
 #![tactic(auto)]
 
 mod number;
 
-ghost use Rattle.std.specs.Prelude.{◌≡◌, ◌+◌, ◌≤◌, length, replicate};
+ghost use Rattle.std.specs.Prelude.{◌≡◌, ◌+◌, ◌≤◌, length};
 ghost use Rattle.std.proofs.lemmas.List.Edits.{sets};
 ghost use Rattle.octets.specs.Run.{part};
 ghost use Rattle.numbers.specs.Number.{digits};
 ghost use Rattle.digits.specs.Field.{value_of};
-ghost use Rattle.layout.specs.Tables.{ready_by};
-ghost use Rattle.records.specs.Held.{read_by, filled_in, ready_in};
-ghost use Rattle.records.specs.Packed.{record_length, record_bytes};
-ghost use Rattle.pls.specs.Layouts.{layout_s, layout_t, layout_c, layout_of, length_of};
-ghost use Rattle.plsread.specs.Moved.{storable, sale_moved, sale_ready};
+ghost use Rattle.records.specs.Held.{filled_in, ready_in};
+ghost use Rattle.records.specs.Packed.{record_bytes};
+ghost use Rattle.pls.specs.Layouts.{layout_of, length_of};
+ghost use Rattle.plsread.specs.Moved.{storable, sale_moved, sale_ready, head_moved, head_ready};
+ghost use Rattle.plsread.specs.Moved.{trade_moved, trade_ready};
 
 use copies::{copy_byte, copy_four, copy_run};
 use kinds::Kind;
@@ -36,8 +35,8 @@ fn move_number(b: &mut [u8], to: usize, m: &[u8], at: usize, width: usize, least
     ensures ready { result ≡ storable least (part m.now at width) }
 {
     let n = read_number(&m[at..at + width], least);
-    put4(b, to, (n.value % BOUND) as u32);
-    n.spelt & (n.value < BOUND)
+    put4(b, to, (n.unwrap_or(0) % BOUND) as u32);
+    n.is_some_and(|x| x < BOUND)
 }
 
 // Moves a trade: control, price, size, condition. Says whether its numbers can be stored, behind another test.
@@ -53,43 +52,30 @@ fn move_sale(b: &mut [u8], to: usize, m: &[u8], at: usize, held: bool) -> bool
     held & price & size
 }
 
-// Each type's fields, put over eighty zeros; whether each can be stored.
-fn unpack_s(b: &mut [u8], m: &[u8]) -> bool
-    requires { (b.old ≡ replicate record_length 0) × (10 ≤ length m.now) }
-    ensures bytes { b.new ≡ record_bytes (read_by layout_s m.now) }
-    ensures ready { result ≡ ready_by layout_s m.now }
+// Moves letter and time, which stand alike in every type. Says whether the time can be stored.
+#[inline(always)]
+fn move_head(b: &mut [u8], m: &[u8]) -> bool
+    requires { 8 ≤ length m.now }
+    ensures bytes { b.new ≡ head_moved b.old m.now }
+    ensures ready { result ≡ head_ready m.now }
 {
     copy_byte(b, LETTER, m, M_LETTER);
-    let ready = move_number(b, TIME, m, M_TIME, TIME_WIDTH, DIGITS);
-    copy_byte(b, EVENT, m, M_BODY);
-    ready
+    move_number(b, TIME, m, M_TIME, TIME_WIDTH, DIGITS)
 }
 
-// T and X: whichever of the two letters it is, the fields stand where those of a T (84) do.
-fn unpack_t(b: &mut [u8], m: &[u8]) -> bool
-    requires { (b.old ≡ replicate record_length 0) × (52 ≤ length m.now) }
-    ensures bytes { b.new ≡ record_bytes (read_by (layout_t 84) m.now) }
-    ensures ready { result ≡ ready_by (layout_t 84) m.now }
+// Moves what a T and an X have, and a C up to its new trade. Says whether its numbers can be stored.
+#[inline(always)]
+fn move_trade(b: &mut [u8], m: &[u8]) -> bool
+    requires { 52 ≤ length m.now }
+    ensures bytes { b.new ≡ trade_moved b.old m.now }
+    ensures ready { result ≡ trade_ready m.now }
 {
-    copy_byte(b, LETTER, m, M_LETTER);
-    let ready = move_number(b, TIME, m, M_TIME, TIME_WIDTH, DIGITS);
+    let head = move_head(b, m);
     copy_run(b, CENTRE, m, M_BODY, NAMED);
-    move_sale(b, OLD_SALE, m, M_SALE, ready)
+    move_sale(b, OLD_SALE, m, M_SALE, head)
 }
 
-fn unpack_c(b: &mut [u8], m: &[u8]) -> bool
-    requires { (b.old ≡ replicate record_length 0) × (85 ≤ length m.now) }
-    ensures bytes { b.new ≡ record_bytes (read_by layout_c m.now) }
-    ensures ready { result ≡ ready_by layout_c m.now }
-{
-    copy_byte(b, LETTER, m, M_LETTER);
-    let ready = move_number(b, TIME, m, M_TIME, TIME_WIDTH, DIGITS);
-    copy_run(b, CENTRE, m, M_BODY, NAMED);
-    let old = move_sale(b, OLD_SALE, m, M_SALE, ready);
-    move_sale(b, NEW_SALE, m, M_NEW, old)
-}
-
-// The same for any type, of a message that is no shorter than its type.
+// Each type's fields, put over eighty zeros, of a message that is no shorter than its type; whether each can be stored.
 fn unpack_whole(b: &mut [u8; RECORD], m: &[u8], kind: Kind) -> bool
     requires { length_of kind ≤ length m.now }
     ensures bytes { b.new ≡ record_bytes (filled_in (layout_of kind) m.now) }
@@ -97,9 +83,15 @@ fn unpack_whole(b: &mut [u8; RECORD], m: &[u8], kind: Kind) -> bool
 {
     *b = [0u8; RECORD];
     match kind {
-        Kind::Event => unpack_s(b, m),
-        Kind::Trade | Kind::Cancel => unpack_t(b, m),
-        Kind::Correction => unpack_c(b, m),
+        Kind::Event => {
+            copy_byte(b, EVENT, m, M_BODY);
+            move_head(b, m)
+        }
+        Kind::Trade | Kind::Cancel => move_trade(b, m),
+        Kind::Correction => {
+            let old = move_trade(b, m);
+            move_sale(b, NEW_SALE, m, M_NEW, old)
+        }
         Kind::Summary | Kind::Other => true,
     }
 }

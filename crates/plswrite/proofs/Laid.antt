@@ -20,7 +20,7 @@ use Rattle.records.proofs.Again.{told, packed_long}
 use Rattle.pls.specs.Layouts.{layout_s, layout_t, layout_c, layout_of, length_of}
 use Rattle.pls.proofs.Good.{good}
 use Rattle.pls.proofs.Laws.{longest, four_runs}
-use Rattle.plswrite.specs.Stored.{sale_shown}
+use Rattle.plswrite.specs.Stored.{sale_shown, head_stored, trade_stored}
 
 -- ---- in pieces
 
@@ -28,7 +28,8 @@ use Rattle.plswrite.specs.Stored.{sale_shown}
 pub sale_shown_lem : (l b : List ℕ) (to at : ℕ)
     → let price = shown_in 10 4 (be (part b (at + 10) 4)) in
     let size = shown_in 9 1 (be (part b (at + 14) 4)) in
-    sets (sets (sets (sets l to (part b at 10)) (to + 10) price) (to + 20) size) (to + 29) (part b (at + 18) 4) ≡ sets l to (sale_shown b at)
+    sets (sets (sets (sets l to (part b at 10)) (to + 10) price) (to + 20) size) (to + 29) (part b (at + 18) 4)
+    ≡ sets l to (sale_shown b at)
 unfolding sale_shown
 sale_shown_lem l b to at =
     let p = be (part b (at + 10) 4) in
@@ -46,23 +47,20 @@ sale_length b at =
     refl
 
 module _ (b : List ℕ) (g : Bytes b) (out : List ℕ) where
-  -- a time and a letter at the front, and what follows
+  -- what follows a time and a letter at the front
   abbrev time : List ℕ
   time = shown_in 8 1 (be (part b 1 4))
 
-  abbrev pub fronted : List ℕ
-  fronted = set (sets out 0 time) 8 (get_or b 0 0)
-
-  begins : (xs : List ℕ) → sets fronted 9 xs ≡ sets out 0 (time ++ (get_or b 0 0 ∷ xs))
+  begins : (xs : List ℕ) → sets (head_stored out b) 9 xs ≡ sets out 0 (time ++ (get_or b 0 0 ∷ xs))
   begins xs = sets_then time (get_or b 0 0 ∷ xs) out 0 8 (omega (arith, shown_length 8 1 (be (part b 1 4))))
 
-  pub s_put : set fronted 9 (get_or b 5 0) ≡ sets out 0 (write_by layout_s (record_of b))
+  pub s_put : set (head_stored out b) 9 (get_or b 5 0) ≡ sets out 0 (write_by layout_s (record_of b))
   unfolding part tab slots layout_s
   s_put = begins (get_or b 5 0 ∷ []) ∙ ap (sets out 0) (told layout_s b g)
 
-  pub t_put : sets (sets fronted 9 (part b 6 10)) 19 (sale_shown b 16) ≡ sets out 0 (write_by (layout_t 84) (record_of b))
+  pub t_put : (k : ℕ) → trade_stored out b ≡ sets out 0 (write_by (layout_t k) (record_of b))
   unfolding part tab slots layout_t sale_shown
-  t_put = begins (part b 6 10 ++ sale_shown b 16) ∙ ap (sets out 0) (told (layout_t 84) b g)
+  t_put k = begins (part b 6 10 ++ sale_shown b 16) ∙ ap (sets out 0) (told (layout_t k) b g)
 
   -- a trade before what follows
   sale_then : (at : ℕ) (xs : List ℕ)
@@ -71,12 +69,12 @@ module _ (b : List ℕ) (g : Bytes b) (out : List ℕ) where
   unfolding sale_shown
   sale_then at xs = rw (append_assoc, append_assoc, append_assoc)
 
-  pub c_put : sets (sets (sets fronted 9 (part b 6 10)) 19 (sale_shown b 16)) 52 (sale_shown b 38)
+  pub c_put : sets (trade_stored out b) 52 (sale_shown b 38)
       ≡ sets out 0 (write_by layout_c (record_of b))
   unfolding part tab slots layout_c sale_shown
   c_put =
       let named = part b 6 10 in
-      sets_then (sale_shown b 16) (sale_shown b 38) (sets fronted 9 named) 19 52 (omega (arith, sale_length b 16))
+      sets_then (sale_shown b 16) (sale_shown b 38) (sets (head_stored out b) 9 named) 19 52 (omega (arith, sale_length b 16))
       ∙ begins (named ++ (sale_shown b 16 ++ sale_shown b 38))
       ∙ ap (λ (xs : List ℕ). sets out 0 (time ++ (get_or b 0 0 ∷ (named ++ xs)))) (sale_then 16 (sale_shown b 38))
       ∙ ap (sets out 0) (told layout_c b g)

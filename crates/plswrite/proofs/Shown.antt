@@ -7,9 +7,11 @@ use Prim.Native.Nat.{ℕ, zero, suc, ◌+◌, ◌-◌, ◌*◌, ◌/◌, ◌%◌
 use native.Mathlib.Nat.{add-zero, zero-add, pow-succ', one-le-pow, not-suc-le-zero}
 use native.Mathlib.Omega.{arith}
 use borrow.Author.Tests.{ltb-true, ltb-false, ne_eqb}
+use borrow.Rule.Slice.PartMut.{put_mid}
 use lib.Dec.{ltb, lit<}
-use lib.ListN.{length, set, replicate, length-set, length-replicate, length-append, replicate-append-replicate}
-use lib.Seq.{sets, set-set, set_comm, length-sets}
+use lib.ListN.{length, take, drop, set, replicate, length-take, length-drop, length-set, length-replicate, length-append}
+use lib.ListN.{replicate-append-replicate}
+use lib.Seq.{drop-drop, sets, sets-eq, set-set, set_comm, length-sets}
 use Rattle.octets.specs.Low.{low}
 use Rattle.octets.proofs.Laws.{sets_then}
 use Rattle.decimal.specs.Decimal.{digit_count, lowest}
@@ -21,14 +23,14 @@ use Rattle.plswrite.specs.Stored.{higher, due}
 
 -- ---- spaces
 
-replicate_more : (i v : ℕ) → replicate i v ++ (v ∷ []) ≡ replicate (i + 1) v
-replicate_more i v = replicate-append-replicate i 1 v
-
-pub space_turn : (l out : List ℕ) (at i : ℕ) → out ≡ sets l at (replicate i 32) → set out (at + i) 32 ≡ sets l at (replicate (i + 1) 32)
-space_turn l out at i e =
-    ap (λ (m : List ℕ). set m (at + i) 32) e
-    ∙ sets_then (replicate i 32) (32 ∷ []) l at (at + i) (ap (λ (k : ℕ). at + k) (length-replicate i 32))
-    ∙ ap (sets l at) (replicate_more i 32)
+-- the part of a list between two places, written over with spaces
+pub spaces_put : (l ys : List ℕ) (at to n : ℕ) → to - at ≡ n → at + n ≤ length l
+    → ys ≡ replicate (length (take (to - at) (drop at l))) 32 → put_mid at (to - at) l ys ≡ sets l at (replicate n 32)
+spaces_put l ys at to n e h f =
+    let long : length (take n (drop at l)) ≡ n = simp (length-take, length-drop) (omega arith) in
+    let spaces : length (replicate {A = ℕ} n 32) ≡ n = length-replicate n 32 in
+    let stored = sets-eq (replicate n 32) l at (omega (arith, spaces)) in
+    rw (f, e, long, drop-drop, ← append_assoc) (sym (rw spaces at stored))
 
 -- ---- the lowest digits, from the last to the first
 
@@ -188,26 +190,22 @@ sets_second (x ∷ xs) ys l at n e =
     ap (λ (m : List ℕ). sets m (suc at) xs) (set_first ys l at n x (omega arith))
     ∙ sets_second xs ys (set l at x) (suc at) n (omega arith)
 
-pub low_four : (out l m : List ℕ) (at i y z n x : ℕ) → Low out l at i y n x → 4 ≤ i → m ≡ sets out (at + (i - 4)) (lowest 4 y)
+pub low_four : (out l m : List ℕ) (at i j y z n x : ℕ) → Low out l at i y n x → i ≡ 4 + j → m ≡ sets out (at + j) (lowest 4 y)
     → z ≡ higher 4 y
-    → Low m l at (i - 4) z n x
-low_four out l m at i y z n x w h e f =
-    let k : i ≡ 4 + (i - 4) = omega arith in
-    let place : at + length (lowest (i - 4) z) ≡ at + (i - 4) = ap (λ (j : ℕ). at + j) (lowest_length (i - 4) z) in
-    let digits : lowest (i - 4) z ++ lowest 4 y ≡ lowest i y
-    = ap (λ (j : ℕ). lowest (i - 4) j ++ lowest 4 y) f
-    ∙ sym (lowest_more 4 (i - 4) y)
-    ∙ ap (λ (j : ℕ). lowest j y) (sym k) in
+    → Low m l at j z n x
+low_four out l m at i j y z n x w k e f =
+    let place : at + length (lowest j z) ≡ at + j = ap (λ (o : ℕ). at + o) (lowest_length j z) in
+    let digits : lowest j z ++ lowest 4 y ≡ lowest i y
+    = ap (λ (o : ℕ). lowest j o ++ lowest 4 y) f ∙ sym (lowest_more 4 j y) ∙ ap (λ (o : ℕ). lowest o y) (sym k) in
     record {
       places = omega (arith, w.places);
-      same = ap length e ∙ length-sets out (at + (i - 4)) (lowest 4 y) ∙ w.same;
+      same = ap length e ∙ length-sets out (at + j) (lowest 4 y) ∙ w.same;
       bytes =
-          ap (λ (j : List ℕ). sets j at (lowest (i - 4) z)) e
-          ∙ sets_second (lowest (i - 4) z) (lowest 4 y) out at (at + (i - 4)) place
+          ap (λ (o : List ℕ). sets o at (lowest j z)) e
+          ∙ sets_second (lowest j z) (lowest 4 y) out at (at + j) place
           ∙ ap (sets out at) digits
           ∙ w.bytes;
-      left =
-          ap (higher (i - 4)) f ∙ sym (higher_more 4 (i - 4) y) ∙ ap (λ (j : ℕ). higher j y) (sym k) ∙ w.left;
+      left = ap (higher j) f ∙ sym (higher_more 4 j y) ∙ ap (λ (o : ℕ). higher o y) (sym k) ∙ w.left;
     }
 
 -- ---- the digits of what is left, from the last to the first
@@ -378,7 +376,8 @@ shown_stored l a b out at w d x y h k s e f g i =
     ∙ ap (λ (j : ℕ). sets l at (replicate j 32 ++ lowest (shown_count w d x) x)) before
 
 -- a number with a digit for each place
-pub shown_full : (l out : List ℕ) (at w d x : ℕ) → d < w → 10 ^ (w - 1) ≤ x → out ≡ sets l at (lowest w x) → out ≡ sets l at (shown_in w d x)
+pub shown_full : (l out : List ℕ) (at w d x : ℕ) → d < w → 10 ^ (w - 1) ≤ x → out ≡ sets l at (lowest w x)
+    → out ≡ sets l at (shown_in w d x)
 unfolding shown_in
 shown_full l out at w d x k s e =
     let count : shown_count w d x ≡ w = omega (arith, count_least (w - 1) x s) in

@@ -1,16 +1,16 @@
 // A message of PLS 1.1 written: the fields of a record moved from its eighty bytes (`records::packed`) to their places
-// in the message. What each contract says is computed from the layout of the type (`pls`); the code is straight-line,
-// one function for a type. Numbers are spelt in digits (`number`).
+// in the message. What each contract says is computed from the layout of the type (`pls`). Numbers are spelt in digits
+// (`number`).
 #![tactic(auto)]
 
 mod number;
 
 ghost use Rattle.std.specs.Prelude.{◌≡◌, ◌+◌, ◌≤◌, length};
 ghost use Rattle.std.proofs.lemmas.List.Edits.{sets};
-ghost use Rattle.records.specs.Held.{write_by, bytes_in};
+ghost use Rattle.records.specs.Held.{bytes_in};
 ghost use Rattle.records.specs.Packed.{record_of};
-ghost use Rattle.pls.specs.Layouts.{layout_s, layout_t, layout_c, layout_of, length_of};
-ghost use Rattle.plswrite.specs.Stored.{sale_shown};
+ghost use Rattle.pls.specs.Layouts.{layout_of, length_of};
+ghost use Rattle.plswrite.specs.Stored.{sale_shown, head_stored, trade_stored};
 
 use copies::{copy_byte, copy_four, copy_run};
 use kinds::Kind;
@@ -45,47 +45,42 @@ fn put_sale(out: &mut [u8], to: usize, b: &[u8], at: usize)
     copy_four(out, to + M_CONDITION, b, at + CONDITION);
 }
 
-// The message of each type, stored from the eighty bytes of its record.
-fn put_s(out: &mut [u8], b: &[u8])
-    requires { 10 ≤ length out.old }
-    ensures { out.new ≡ sets out.old 0 (write_by layout_s (record_of b.now)) }
+// Stores time and letter, which stand alike in every type.
+#[inline(always)]
+fn put_head(out: &mut [u8], b: &[u8])
+    requires { 8 ≤ length out.old }
+    ensures { out.new ≡ head_stored out.old b.now }
 {
     put_number(out, M_TIME, TIME_WIDTH, TIME_FULL, DIGITS, number4(b, TIME));
     copy_byte(out, M_LETTER, b, LETTER);
-    copy_byte(out, M_BODY, b, EVENT);
 }
 
-// T and X.
-fn put_t(out: &mut [u8], b: &[u8])
+// Stores what a T and an X have, and a C up to its new trade.
+#[inline(always)]
+fn put_trade(out: &mut [u8], b: &[u8])
     requires { 52 ≤ length out.old }
-    ensures { out.new ≡ sets out.old 0 (write_by (layout_t 84) (record_of b.now)) }
+    ensures { out.new ≡ trade_stored out.old b.now }
 {
-    put_number(out, M_TIME, TIME_WIDTH, TIME_FULL, DIGITS, number4(b, TIME));
-    copy_byte(out, M_LETTER, b, LETTER);
+    put_head(out, b);
     copy_run(out, M_BODY, b, CENTRE, NAMED);
     put_sale(out, M_SALE, b, OLD_SALE);
 }
 
-fn put_c(out: &mut [u8], b: &[u8])
-    requires { 85 ≤ length out.old }
-    ensures { out.new ≡ sets out.old 0 (write_by layout_c (record_of b.now)) }
-{
-    put_number(out, M_TIME, TIME_WIDTH, TIME_FULL, DIGITS, number4(b, TIME));
-    copy_byte(out, M_LETTER, b, LETTER);
-    copy_run(out, M_BODY, b, CENTRE, NAMED);
-    put_sale(out, M_SALE, b, OLD_SALE);
-    put_sale(out, M_NEW, b, NEW_SALE);
-}
-
-// The same for any type, where out has room for its message.
+// The message of a type, stored from the eighty bytes of its record where out has room for it.
 fn store_whole(out: &mut [u8], b: &[u8], k: Kind)
     requires { length_of k ≤ length out.old }
     ensures { out.new ≡ sets out.old 0 (bytes_in (layout_of k) (record_of b.now)) }
 {
     match k {
-        Kind::Event => put_s(out, b),
-        Kind::Trade | Kind::Cancel => put_t(out, b),
-        Kind::Correction => put_c(out, b),
+        Kind::Event => {
+            put_head(out, b);
+            copy_byte(out, M_BODY, b, EVENT);
+        }
+        Kind::Trade | Kind::Cancel => put_trade(out, b),
+        Kind::Correction => {
+            put_trade(out, b);
+            put_sale(out, M_NEW, b, NEW_SALE);
+        }
         Kind::Summary | Kind::Other => {}
     }
 }

@@ -9,18 +9,6 @@ ghost use Rattle.plswrite.specs.Stored.{higher, due};
 // The digit 0 four times, as a number of four bytes.
 const ZEROS: u32 = 808464432;
 
-// Stores n spaces.
-fn put_spaces(out: &mut [u8], at: usize, n: usize)
-    requires { n ≤ length out.old - at }
-    ensures { out.new ≡ sets out.old at (replicate n 32) }
-{
-    let mut i: usize = 0;
-    while i < n {
-        out[at + i] = b' ';
-        i += 1;
-    }
-}
-
 // The four lowest digits of a number as one number of four bytes, the first digit its lowest byte. The first two digits
 // and the last two stand side by side as two numbers below 100, and the tens of both are taken at once: of such a
 // number 103 / 1024 are its tens. One of t tens and u ones, times 256 and less 2559 t, is t + 256 u: a byte for each
@@ -55,12 +43,10 @@ fn put_each(out: &mut [u8], at: usize, n: usize, x: u32) -> u32
     ensures bytes { out.new ≡ sets out.old at (lowest n x) }
     ensures left { result ≡ higher n x }
 {
-    let mut i: usize = n;
-    let mut y: u32 = x;
-    while 0 < i {
-        i -= 1;
+    let mut y = x;
+    for i in (0..n).rev() {
         out[at + i] = b'0' + ((y % 10) as u8);
-        y = y / 10;
+        y /= 10;
     }
     y
 }
@@ -71,30 +57,29 @@ fn put_low(out: &mut [u8], at: usize, n: usize, x: u32) -> u32
     ensures bytes { out.new ≡ sets out.old at (lowest n x) }
     ensures left { result ≡ higher n x }
 {
-    let mut i: usize = n;
-    let mut y: u32 = x;
-    while 4 <= i {
-        i -= 4;
-        y = put_four(out, at + i, y);
+    let before = n % 4;
+    let mut y = x;
+    for i in (0..n / 4).rev() {
+        y = put_four(out, at + (before + 4 * i), y);
     }
-    put_each(out, at, i, y)
+    put_each(out, at, before, y)
 }
 
 // Stores the digits of what is left of a number at the end of n places, the last first, two at a time while there are
-// two; of 0 there are none. They fit.
+// two; of 0 there are none. They fit. How many there are is known only when the number is used up, so no range counts.
 fn put_rest(out: &mut [u8], at: usize, n: usize, x: u32)
     requires { (n ≤ length out.old - at) × (due x ≤ n) }
     ensures { out.new ≡ sets out.old (at + (n - due x)) (lowest (due x) x) }
 {
-    let mut i: usize = n;
-    let mut y: u32 = x;
+    let mut i = n;
+    let mut y = x;
     while 10 <= y {
         let two = y % 100;
         i -= 1;
         out[at + i] = b'0' + ((two % 10) as u8);
         i -= 1;
         out[at + i] = b'0' + ((two / 10) as u8);
-        y = y / 100;
+        y /= 100;
     }
     if y == 0 {
         return;
@@ -105,6 +90,7 @@ fn put_rest(out: &mut [u8], at: usize, n: usize, x: u32)
 
 // Stores a number in so many places, with at least so many digits. A number that is not below `full` has a digit for
 // each place; a smaller one leaves the first place empty, so that its digits always fit.
+#[inline(always)]
 pub(crate) fn put_number(out: &mut [u8], at: usize, width: usize, full: u32, least: usize, x: u32)
     requires { (width ≤ length out.old - at) × (full ≡ 10 ^ (width - 1)) × (1 ≤ least) × (least < width) }
     ensures { out.new ≡ sets out.old at (shown_in width least x) }
@@ -115,6 +101,6 @@ pub(crate) fn put_number(out: &mut [u8], at: usize, width: usize, full: u32, lea
     }
     let before = width - least;
     let left = put_low(out, at + before, least, x);
-    put_spaces(out, at, before);
+    out[at..at + before].fill(b' ');
     put_rest(out, at, before, left);
 }

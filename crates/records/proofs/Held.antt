@@ -1,9 +1,9 @@
 -- The laws of every table, over records.
 -- Assumes nothing.
 use mathlib.Core.Path.{◌≡◌, refl, ap, sym, subst, ◌∙◌}
-use mathlib.Core.Bool.{Bool, true, false, ◌&&◌}
-use mathlib.Core.List.{List, [], ◌∷◌, ◌++◌}
-use Prim.Native.Nat.{ℕ, ◌^◌, ◌<◌}
+use mathlib.Core.Bool.{true, false, ◌&&◌}
+use mathlib.Core.List.{List}
+use Prim.Native.Nat.{ℕ, ◌^◌}
 use borrow.Author.Tests.{eq-eqb, eqb-true, lt-ltb, ltb-true}
 use lib.Dec.{eqb}
 use lib.ListN.{length, get_or}
@@ -11,16 +11,16 @@ use Rattle.octets.specs.Run.{Bytes}
 use Rattle.layout.specs.Values.{Field, letter, time, event, centre, symbol, class, control, price, size, condition, new_control}
 use Rattle.layout.specs.Values.{new_price, new_size, new_condition, high, low, close, consolidated, Value, number, text, Values, is_text}
 use Rattle.layout.specs.Values.{is_zero, room_of, Typed, Sized, zero_of}
-use Rattle.layout.specs.Forms.{keeps, is_numeral}
-use Rattle.layout.specs.Tables.{Layout, field_of, form_of, tiles, all_narrow, bytes_at, stands, look, written, Each, lacked, all_from, kept_by}
+use Rattle.layout.specs.Forms.{is_numeral}
+use Rattle.layout.specs.Tables.{Layout, field_of, form_of, tiles, all_narrow, bytes_at, stands, look, written, Each, lacked, kept_by}
 use Rattle.layout.specs.Tables.{lawful_by, spelt_by, plain_by, obeys_by, ready_by}
 use Rattle.layout.proofs.Forms.{both, clash, typed_sized}
 use Rattle.layout.proofs.Tables.{layout_found, layout_none, layout_sized, layout_kinds, layout_letter, layout_again, lawful_fits}
 use Rattle.layout.proofs.Tables.{layout_plain, layout_outside, layout_lean}
-use Rattle.layout.proofs.Tables.{layout_back, layout_long, layout_spelt, layout_kept, layout_lawful, layout_obeys}
+use Rattle.layout.proofs.Tables.{layout_back, layout_long, layout_spelt, layout_lawful, layout_obeys}
 use Rattle.layout.proofs.Rooms.{look_typed, obeys_ready, ready_spelt}
 use Rattle.records.specs.declared.Record.{Record}
-use Rattle.records.specs.Fits.{SaleFits, RecordFits}
+use Rattle.records.specs.Fits.{RecordFits}
 use Rattle.records.specs.Held.{holds, number_in, text_in, sale_from, new_from, record_from, read_by, write_by, kept, lawful}
 
 -- ---- a record and its values

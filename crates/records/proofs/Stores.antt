@@ -110,6 +110,6 @@ module _ (l : List ℕ) (r : Record) where
       ∙ sets_then f (s ++ (n ++ end_bytes r)) l 0 16 (rw (front_length r g.symbol))
       ∙ ap (sets l 0) (pieces r)
 
--- stored over 80 zeros, a record's bytes are all that is left
-pub record_over : (l : List ℕ) (r : Record) → Long r → l ≡ sets (replicate 80 0) 0 (record_bytes r) → l ≡ record_bytes r
-record_over l r g e = e ∙ sets_all (replicate 80 0) (record_bytes r) (record_length_lem r g)
+-- stored over eighty bytes, a record's bytes are all that is left
+pub record_over : (m : List ℕ) (r : Record) → Long r → length m ≡ 80 → sets m 0 (record_bytes r) ≡ record_bytes r
+record_over m r g e = sets_all m (record_bytes r) (record_length_lem r g ∙ sym e)

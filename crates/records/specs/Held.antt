@@ -42,7 +42,13 @@ text_in (number x) = []
 text_in (text xs) = xs
 
 unfoldable pub sale_from : Values → Sale
-sale_from v = record { control = text_in (v control); price = number_in (v price); size = number_in (v size); condition = text_in (v condition) }
+sale_from v =
+    record {
+      control = text_in (v control);
+      price = number_in (v price);
+      size = number_in (v size);
+      condition = text_in (v condition);
+    }
 
 unfoldable pub new_from : Values → Sale
 new_from v =

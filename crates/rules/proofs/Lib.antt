@@ -1,4 +1,3 @@
-pub mod Codes
 pub mod Promise
 pub mod Events
 pub mod ByHand

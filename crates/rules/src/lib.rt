@@ -8,6 +8,7 @@ ghost use Rattle.editions.specs.declared.Edition.TheVariants.{NlsPlus, Pls};
 ghost use Rattle.layout.specs.Forms.{inside};
 ghost use Rattle.rules.specs.Rules as Rules;
 
+use conditions::condition_marks;
 use editions::Edition;
 use phases::phase_of;
 
@@ -32,13 +33,7 @@ pub fn event_ok(e: u8) -> bool
 fn plus_centre(c: u8) -> bool
     ensures { result ≡ Rules.centre NlsPlus c }
 {
-    match c {
-        b'Q' => true,
-        b'L' => true,
-        b'B' => true,
-        b'X' => true,
-        _ => false,
-    }
+    matches!(c, b'Q' | b'L' | b'B' | b'X')
 }
 
 // Whether a byte is one of an edition's centres.
@@ -55,14 +50,7 @@ pub fn centre_ok(edition: Edition, c: u8) -> bool
 fn shared_class(c: u8) -> bool
     ensures { result ≡ Rules.class Pls c }
 {
-    match c {
-        b'Q' => true,
-        b'N' => true,
-        b'A' => true,
-        b'P' => true,
-        b'Z' => true,
-        _ => false,
-    }
+    matches!(c, b'Q' | b'N' | b'A' | b'P' | b'Z')
 }
 
 // Whether a byte is one of an edition's classes.
@@ -79,7 +67,7 @@ pub fn class_ok(edition: Edition, c: u8) -> bool
 pub fn price_ok(p: u32) -> bool
     ensures { result ≡ inside Rules.trade_price p }
 {
-    (1 <= p) & (p <= PRICE_TOP)
+    (1..=PRICE_TOP).contains(&p)
 }
 
 // Whether a price may stand in a summary: there 0 says that there is none.
@@ -94,8 +82,8 @@ pub fn size_ok(edition: Edition, s: u32) -> bool
     ensures { result ≡ inside (Rules.size edition) s }
 {
     match edition {
-        Edition::NlsPlus => (1 <= s) & (s <= 4294967295),
-        Edition::Pls => (1 <= s) & (s <= 999999999),
+        Edition::NlsPlus => (1..=4294967295).contains(&s),
+        Edition::Pls => (1..=999999999).contains(&s),
     }
 }
 
@@ -103,9 +91,5 @@ pub fn size_ok(edition: Edition, s: u32) -> bool
 pub fn condition_ok(a: u8, b: u8, c: u8, d: u8) -> bool
     ensures { result ≡ Rules.condition (a ∷ b ∷ c ∷ d ∷ []) }
 {
-    let first = conditions::code_marks(1, a);
-    let second = conditions::code_marks(2, b);
-    let third = conditions::code_marks(3, c);
-    let fourth = conditions::code_marks(4, d);
-    first.on_sheet & second.on_sheet & third.on_sheet & fourth.on_sheet
+    condition_marks([a, b, c, d]).on_sheet
 }

@@ -1,20 +1,24 @@
--- `judge::none` meets its contract. The loop: whether the bytes so far are all zero.
+-- `judge::none` meets its contract.
 -- Assumes nothing.
 use mathlib.Core.Path.{ap, ◌∙◌}
-use mathlib.Core.Bool.{Bool, ◌&&◌}
-use Prim.Native.Nat.{◌+◌, ◌-◌}
+use mathlib.Core.Bool.{true, ◌&&◌}
+use mathlib.Core.List.{List}
+use Prim.Native.Nat.{ℕ, ◌+◌, ◌-◌}
 use native.Mathlib.Omega.{arith}
 use lib.Dec.{eqb}
-use lib.ListN.{get_or}
-use Rattle.judge.proofs.Runs.{none_yet, none_turn}
+use lib.ListN.{take, drop}
+use Rattle.std.proofs.Common.{rules, tests}
+use Rattle.std.proofs.lemmas.Iterator.{YieldsList-from_slice}
+use Rattle.std.proofs.lemmas.Iterator.Consumers.{fold_from_yields_List}
+use Rattle.octets.specs.Run.{all}
+use Rattle.octets.proofs.Trips.{lent}
+use Rattle.judge.proofs.Runs.{none_walked}
 use Rattle.judge.proofs.none.Goals as goal
 
-pub loop-i-init : goal.loop-i-init
-loop-i-init c = let a = c.args in
-    (omega arith, none_yet a.b.now a.at)
-
-pub loop-i-preserved : goal.loop-i-preserved
-loop-i-preserved c = let a = c.args in
-    let l = c.loop-i in
-    let z : Bool = eqb (get_or a.b.now (a.at + l.i) 0) 0 in
-    (omega arith, ap (λ (t : Bool). t && z) l.invariant.1 ∙ none_turn a.b.now a.at l.i)
+pub returns : goal.returns
+returns c = let a = c.args in
+    let xs : List ℕ = take (a.at + a.n - a.at) (drop a.at a.b.now) in
+    fold_from_yields_List _ (λ t x. t && eqb x 0) true _ c.fold.ensures.ran (YieldsList-from_slice xs (cc))
+    (λ t x b q k. search (rules, tests))
+    ∙ none_walked true xs
+    ∙ ap (all 0) (lent a.b.now a.at (a.at + a.n) a.n (omega arith) (omega arith))

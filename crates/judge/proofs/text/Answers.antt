@@ -2,7 +2,7 @@
 -- Assumes nothing.
 use native.Mathlib.Omega.{arith}
 use Prim.Native.Nat.{◌+◌}
-use Rattle.judge.proofs.Runs.{lent}
+use Rattle.octets.proofs.Trips.{lent}
 use Rattle.judge.proofs.text.Goals as goal
 
 pub returns : goal.returns

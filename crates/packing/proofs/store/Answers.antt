@@ -1,19 +1,23 @@
 -- `packing::store` meets its contract.
 -- Assumes nothing.
-use mathlib.Core.Path.{◌≡◌, refl, ap, ◌∙◌}
-use lib.Seq.{sets}
-use Rattle.kinds.specs.declared.Kind.{Kind}
-use Rattle.kinds.proofs.Laws.{one_of_two}
-use Rattle.records.specs.Held.{write_by, bytes_in}
-use Rattle.records.specs.Packed.{record_of}
-use Rattle.packing.specs.Layouts.{layout_t, layout_of}
+use mathlib.Core.Logic.{inl, inr}
+use Rattle.packing.proofs.Moves.{s_put, t_put, c_put, j_put}
 use Rattle.packing.proofs.store.Goals as goal
 
+pub returns-in-Event : goal.returns-in-Event
+returns-in-Event c = let a = c.args in
+    rw (c.store_form.ensures, c.in-Event.is) (s_put a.b.now (λ i. (c.type_inv.b i).fits) a.out.now)
+
 pub returns-in-Trade : goal.returns-in-Trade
-unfolding write_by layout_t
 returns-in-Trade c = let a = c.args in
-    let r = record_of a.b.now in
-    c.put_t.ensures
-    ∙ ap
-    (sets a.out.now 0)
-    (one_of_two (λ (k : Kind). write_by (layout_t 84) r ≡ bytes_in (layout_of k) r) 1 2 a.k c.in-Trade.in-Trade-own.keys2 refl refl)
+    let put = t_put a.b.now (λ i. (c.type_inv.b i).fits) a.out.now in
+    rw c.store_form-in-Trade.ensures
+    (elim c.in-Trade.is [ inl e ↦ rw e (put 84) | inr e ↦ rw e (put 88) ])
+
+pub returns-in-Correction : goal.returns-in-Correction
+returns-in-Correction c = let a = c.args in
+    rw (c.store_form-in-Correction.ensures, c.in-Correction.is) (c_put a.b.now (λ i. (c.type_inv.b i).fits) a.out.now)
+
+pub returns-in-Summary : goal.returns-in-Summary
+returns-in-Summary c = let a = c.args in
+    rw (c.store_form-in-Summary.ensures, c.in-Summary.is) (j_put a.b.now (λ i. (c.type_inv.b i).fits) a.out.now)

@@ -1,35 +1,37 @@
 -- `plswrite::store_whole` meets its contract.
 -- Assumes nothing.
-use mathlib.Core.Path.{◌≡◌, refl, ap, ◌∙◌}
-use Prim.Native.Nat.{◌≤◌}
-use lib.ListN.{length}
-use lib.Seq.{sets}
-use Rattle.kinds.specs.declared.Kind.{Kind}
-use Rattle.kinds.proofs.Laws.{one_of_two}
-use Rattle.records.specs.Held.{write_by, bytes_in}
-use Rattle.records.specs.Packed.{record_of}
-use Rattle.pls.specs.Layouts.{layout_s, layout_t, layout_c, layout_of, length_of}
-use Rattle.pls.proofs.Laws.{takes}
+use mathlib.Core.Logic.{inl, inr}
+use native.Mathlib.Omega.{arith}
+use Rattle.pls.specs.Layouts.{layout_s, layout_t, layout_c}
+use Rattle.plswrite.proofs.Laid.{s_put, t_put, c_put}
 use Rattle.plswrite.proofs.store_whole.Goals as goal
 
-pub put_s-requires : goal.put_s-requires
+pub put_head-requires : goal.put_head-requires
 unfolding layout_s
-put_s-requires c = takes (length c.args.out.now) c.in-Event.is c.requires
+put_head-requires c = omega (arith, rw c.in-Event.is at c.requires)
 
-pub put_t-requires : goal.put_t-requires
+pub put_trade-requires : goal.put_trade-requires
 unfolding layout_t
-put_t-requires c = let n = length c.args.out.now in
-    one_of_two (λ (k : Kind). length_of k ≤ n → 52 ≤ n) 1 2 c.args.k c.in-Trade.in-Trade-own.keys2 (λ h. h) (λ h. h) c.requires
+put_trade-requires c = elim c.in-Trade.is [ inl e ↦ rw e at c.requires | inr e ↦ rw e at c.requires ]
 
-pub put_c-requires : goal.put_c-requires
+pub put_trade-requires-in-Correction : goal.put_trade-requires-in-Correction
 unfolding layout_c
-put_c-requires c = takes (length c.args.out.now) c.in-Correction.is c.requires
+put_trade-requires-in-Correction c = omega (arith, rw c.in-Correction.is at c.requires)
+
+pub put_sale-requires : goal.put_sale-requires
+unfolding layout_c
+put_sale-requires c = (omega (arith, rw c.in-Correction.is at c.requires), omega arith)
+
+pub returns-in-Event : goal.returns-in-Event
+returns-in-Event c = let a = c.args in
+    rw (c.copy_byte.ensures, c.put_head.ensures, c.in-Event.is) (s_put a.b.now (λ i. (c.type_inv.b i).fits) a.out.now)
 
 pub returns-in-Trade : goal.returns-in-Trade
-unfolding write_by layout_t
 returns-in-Trade c = let a = c.args in
-    let r = record_of a.b.now in
-    c.put_t.ensures
-    ∙ ap
-    (sets a.out.now 0)
-    (one_of_two (λ (k : Kind). write_by (layout_t 84) r ≡ bytes_in (layout_of k) r) 1 2 a.k c.in-Trade.in-Trade-own.keys2 refl refl)
+    let put = t_put a.b.now (λ i. (c.type_inv.b i).fits) a.out.now in
+    rw c.put_trade.ensures (elim c.in-Trade.is [ inl e ↦ rw e (put 84) | inr e ↦ rw e (put 88) ])
+
+pub returns-in-Correction : goal.returns-in-Correction
+returns-in-Correction c = let a = c.args in
+    rw (c.put_sale.ensures, c.put_trade-in-Correction.ensures, c.in-Correction.is)
+    (c_put a.b.now (λ i. (c.type_inv.b i).fits) a.out.now)

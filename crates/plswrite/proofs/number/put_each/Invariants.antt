@@ -5,6 +5,3 @@ use Rattle.plswrite.proofs.number.put_each.Given as goal
 
 abbrev pub invariant-loop-i : goal.invariant-loop-i
 invariant-loop-i l = Low l.out l.initial.out l.at l.i l.y l.n l.x
-
-abbrev pub decreases-loop-i : goal.decreases-loop-i
-decreases-loop-i l = l.i

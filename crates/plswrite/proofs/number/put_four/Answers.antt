@@ -4,4 +4,4 @@ use Rattle.plswrite.proofs.Shown.{four_low}
 use Rattle.plswrite.proofs.number.put_four.Goals as goal
 
 pub returns : goal.returns
-returns c = let a = c.args in let told = (four_low a.out.now a.at a.x c.spread-word.result c.spread-word.ensures) in record { bytes = told.0; left = told.1 }
+returns c = let told = four_low _ _ _ _ c.spread-word.ensures in record { bytes = told.0; left = told.1 }

@@ -8,7 +8,7 @@ use Rattle.records.proofs.packed.put_front.Goals as goal
 
 pub returns : goal.returns
 returns c =
-    let symbol-long : length c.args.r.symbol ≡ 8 = search rules in
+    let long : length c.args.r.symbol ≡ 8 = search rules in
     rw (
       c.put_byte-4.ensures,
       c.paste.ensures,
@@ -16,4 +16,4 @@ returns c =
       c.put_byte-2.ensures,
       c.put4.ensures,
       c.put_byte.ensures,
-    ) (front_stored c.args.b.now c.args.r symbol-long)
+    ) (front_stored c.args.b.now c.args.r long)

@@ -1,37 +1,21 @@
 -- `records::packed::put_record` meets its contract.
 -- Assumes nothing.
--- the record that a call brings fits its types
-use Rattle.records.specs.Fits.{RecordFits}
-use Rattle.records.proofs.Stores.{fits_long}
-use Rattle.records.proofs.Stores.{record_over}
+use mathlib.Core.Path.{◌≡◌, ◌∙◌}
+use lib.ListN.{length}
 use borrow.Author.Rules.{rules}
+use Rattle.records.specs.Fits.{RecordFits}
+use Rattle.records.proofs.Stores.{fits_long, record_stored, record_over}
 use Rattle.records.proofs.packed.put_record.Goals as goal
 use Rattle.records.proofs.packed.put_record.Goals.{Start}
 
 -- the record that a call brings fits its types
 pub entered : (c : Start) → RecordFits c.args.r
-entered c =
-    record {
-      time = search rules;
-      symbol = search rules;
-      sale = record { control = search rules; price = search rules; size = search rules; condition = search rules };
-      new = record { control = search rules; price = search rules; size = search rules; condition = search rules };
-      high = search rules;
-      low = search rules;
-      close = search rules;
-      consolidated = search rules;
-    }
+entered c = search rules
 
 pub returns : goal.returns
 returns c =
-    let entered : RecordFits c.args.r = record {
-      time = search rules;
-      symbol = search rules;
-      sale = record { control = search rules; price = search rules; size = search rules; condition = search rules };
-      new = record { control = search rules; price = search rules; size = search rules; condition = search rules };
-      high = search rules;
-      low = search rules;
-      close = search rules;
-      consolidated = search rules;
-    } in
-    record_over _ c.args.r (fits_long c.args.r entered) c.store.ensures
+    let fits : RecordFits c.args.r = search rules in
+    let long = fits_long c.args.r fits in
+    let eighty : length c.args.b.now ≡ 80 = search rules in
+    rw (c.put_end.ensures, c.put_sale-2.ensures, c.put_sale.ensures, c.put_front.ensures)
+    (record_stored c.args.b.now c.args.r long ∙ record_over c.args.b.now c.args.r long eighty)

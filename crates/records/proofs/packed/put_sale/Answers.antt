@@ -8,7 +8,7 @@ use Rattle.records.proofs.packed.put_sale.Goals as goal
 
 pub returns : goal.returns
 returns c =
-    let control-long : length c.args.s.control ≡ 10 = search rules in
+    let long : length c.args.s.control ≡ 10 = search rules in
     let a = c.args in
     rw (c.paste-2.ensures, c.put4-2.ensures, c.put4.ensures, c.paste.ensures)
-    (sale_stored a.out.now a.at a.s control-long)
+    (sale_stored a.out.now a.at a.s long)

@@ -1,4 +1,4 @@
--- `judge::kept_j` meets its contract.
+-- `judge::summary_kept` meets its contract.
 -- Assumes nothing.
 use mathlib.Core.Bool.{and-true}
 use Rattle.octets.specs.Run.{tab, part}
@@ -6,7 +6,7 @@ use Rattle.layout.specs.Tables.{kept_by}
 use Rattle.records.specs.Held.{holds, read_by, record_from, sale_from, new_from}
 use Rattle.records.specs.Packed.{slots, packed, record_of}
 use Rattle.packing.specs.Layouts.{layout_j}
-use Rattle.judge.proofs.kept_j.Goals as goal
+use Rattle.judge.proofs.summary_kept.Goals as goal
 
 pub returns : goal.returns
 unfolding record_of read_by record_from sale_from new_from holds packed slots part tab kept_by layout_j

@@ -1,8 +1,0 @@
--- `packing::put_c` meets its contract.
--- Assumes nothing.
-use Rattle.packing.proofs.Moves.{c_put}
-use Rattle.packing.proofs.put_c.Goals as goal
-
-pub returns : goal.returns
-returns c = rw (c.copy_run-2.ensures, c.copy_run.ensures, c.copy_byte.ensures, c.copy_four.ensures)
-    (c_put c.args.b.now (λ i. (c.type_inv.b i).fits) c.args.out.now)

@@ -1,8 +1,0 @@
--- `packing::put_s` meets its contract.
--- Assumes nothing.
-use Rattle.packing.proofs.Moves.{s_put}
-use Rattle.packing.proofs.put_s.Goals as goal
-
-pub returns : goal.returns
-returns c = rw (c.copy_byte-2.ensures, c.copy_byte.ensures, c.copy_four.ensures)
-    (s_put c.args.b.now (λ i. (c.type_inv.b i).fits) c.args.out.now)
