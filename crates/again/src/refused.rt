@@ -13,7 +13,7 @@ pub fn reads<W: Write>(out: &mut W) -> Result<()> {
     back::read(out, &cut)?;
     let mut message = [0u8; 45];
     sound::trade(&mut message, b'T');
-    numbers::put4(&mut message, 25, 0);
+    numbers::put::<u32>(&mut message, 25, 0);
     telling::words(out, b"T with price 0\n")?;
     back::read(out, &message)?;
     Ok(())

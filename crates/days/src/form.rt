@@ -18,11 +18,11 @@ pub fn sign(pen: Pen, out: &mut [u8], b: u8) -> Pen {
             Pen(wrapping_add_usize(at, 1), 0, false)
         }
         b'>' => {
-            numbers::put4(out, at, (x % 4294967296) as u32);
+            numbers::put::<u32>(out, at, (x % 4294967296) as u32);
             Pen(wrapping_add_usize(at, 4), 0, false)
         }
         b'}' => {
-            numbers::put8(out, at, x);
+            numbers::put::<u64>(out, at, x);
             Pen(wrapping_add_usize(at, 8), 0, false)
         }
         _ => plain(pen, out, b),

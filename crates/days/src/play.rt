@@ -6,7 +6,7 @@ use answers::Refusal;
 use book::Said;
 use counters::Counters;
 use editions::Edition;
-use numbers::{number4, number8};
+use numbers::number;
 use octets::run;
 use rows::Listing;
 use show::RowShown;
@@ -22,7 +22,7 @@ pub fn list<W: Write>(
 ) -> Result<Counters> {
     let l = Listing {
         symbol: symbol(code),
-        close: number4(code, 9),
+        close: number::<u32>(code, 9),
     };
     let said = book::list(c, rows, lines, l);
     after(out, said, rows, lines)
@@ -45,7 +45,7 @@ pub fn deliver<W: Write>(
     if code.len() < 9 {
         return Ok(c);
     }
-    let said = book::deliver(c, rows, lines, number8(code, 1), &code[9..]);
+    let said = book::deliver(c, rows, lines, number::<u64>(code, 1), &code[9..]);
     after(out, said, rows, lines)
 }
 
@@ -110,7 +110,7 @@ pub fn row<W: Write>(
 
 fn shown<W: Write>(out: &mut W, r: RowShown) -> Result<()> {
     let found = r.symbol;
-    let symbol = number8(&found, 0);
+    let symbol = number::<u64>(&found, 0);
     telling::words(out, b"; ")?;
     write!(out, "{symbol:016x}")?;
     telling::field(out, b" close ", r.close as u64)?;

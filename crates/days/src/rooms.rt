@@ -1,7 +1,7 @@
 // What the lent bytes hold: whole cells in fields, then the bytes past them.
 ghost use Rattle.std.specs.Prelude.{◌<◌};
 
-use numbers::{number4, number8};
+use numbers::number;
 use octets::run;
 use std::io::{Result, Write};
 use std::num::wrapping_add_usize;
@@ -46,11 +46,11 @@ fn tell_part<W: Write>(out: &mut W, room: &[u8], at: usize, sign: u8) -> Result<
             Ok(1)
         }
         b'4' => {
-            telling::number(out, number4(room, at) as u64)?;
+            telling::number(out, number::<u32>(room, at) as u64)?;
             Ok(4)
         }
         b'8' => {
-            telling::number(out, number8(room, at))?;
+            telling::number(out, number::<u64>(room, at))?;
             Ok(8)
         }
         _ => {
@@ -63,7 +63,7 @@ fn tell_part<W: Write>(out: &mut W, room: &[u8], at: usize, sign: u8) -> Result<
 // Bytes stored at the place that stands before them.
 pub fn paste(room: &mut [u8], code: &[u8]) {
     if 9 <= code.len() {
-        run::paste(room, number8(code, 1) as usize, &code[9..]);
+        run::paste(room, number::<u64>(code, 1) as usize, &code[9..]);
     }
 }
 

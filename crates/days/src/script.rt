@@ -10,7 +10,7 @@ use crate::form::Pen;
 use crate::{form, play, rooms};
 use counters::Counters;
 use editions::Edition;
-use numbers::number8;
+use numbers::number;
 use octets::run;
 use std::io::{Result, Write};
 
@@ -87,8 +87,8 @@ fn line<W: Write>(
 // A fresh book in rooms full of one byte.
 fn opened(rows: &mut [u8], lines: &mut [u8], code: &[u8]) -> Day {
     let blank = [single::byte(code, 17); 7710];
-    let r = play::least(number8(code, 1) as usize, rows);
-    let l = play::least(number8(code, 9) as usize, lines);
+    let r = play::least(number::<u64>(code, 1) as usize, rows);
+    let l = play::least(number::<u64>(code, 9) as usize, lines);
     run::fill(&mut rows[..r], &blank, 0);
     run::fill(&mut lines[..l], &blank, 0);
     Day {
@@ -119,11 +119,11 @@ fn call<W: Write>(
 
 fn counters(code: &[u8]) -> Counters {
     let mut c = book::fresh(Edition::NlsPlus);
-    c.wanted = number8(code, 1);
-    c.phase = number8(code, 9);
-    c.rows = number8(code, 17) as usize;
-    c.lines = number8(code, 25) as usize;
-    c.taken = number8(code, 33);
+    c.wanted = number::<u64>(code, 1);
+    c.phase = number::<u64>(code, 9);
+    c.rows = number::<u64>(code, 17) as usize;
+    c.lines = number::<u64>(code, 25) as usize;
+    c.taken = number::<u64>(code, 33);
     c
 }
 

@@ -13,8 +13,11 @@ ghost use Rattle.judge.specs.Judged.{kept_in, lawful_in, trade_rules, sale_rules
 
 use editions::{Edition, does_report};
 use kinds::{C_LETTER, J_LETTER, Kind, S_LETTER, T_LETTER, X_LETTER};
-use numbers::number4;
-use records::{CENTRE, CLASS, CLOSE, CONDITION, CONSOLIDATED, CONTROL_WIDTH, EVENT, HIGH, LETTER, LOW, NEW_SALE, OLD_SALE, PRICE, RECORD, SIZE, SYMBOL, SYMBOL_WIDTH, TIME};
+use numbers::number;
+use records::{
+    CENTRE, CLASS, CLOSE, CONDITION, CONSOLIDATED, CONTROL_WIDTH, EVENT, HIGH, LETTER, LOW,
+    NEW_SALE, OLD_SALE, PRICE, RECORD, SIZE, SYMBOL, SYMBOL_WIDTH, TIME,
+};
 use rules::{centre_ok, class_ok, event_ok, price_ok, size_ok, summary_price_ok, time_ok};
 
 // The bytes of a consolidated volume.
@@ -71,13 +74,13 @@ fn sale_ok(edition: Edition, b: &[u8; RECORD], held: bool, at: usize, price: u32
 fn trade_ok(edition: Edition, b: &[u8; RECORD], letter: u8) -> bool
     ensures { result ≡ trade_rules edition letter (record_of b.now) }
 {
-    let head = time_ok(number4(b, TIME))
+    let head = time_ok(number::<u32>(b, TIME))
         & (b[LETTER] == letter)
         & centre_ok(edition, b[CENTRE])
         & text(b, SYMBOL, SYMBOL_WIDTH)
         & class_ok(edition, b[CLASS]);
-    let price = number4(b, OLD_SALE + PRICE);
-    let size = number4(b, OLD_SALE + SIZE);
+    let price = number::<u32>(b, OLD_SALE + PRICE);
+    let size = number::<u32>(b, OLD_SALE + SIZE);
     sale_ok(edition, b, head, OLD_SALE, price, size)
 }
 
@@ -85,7 +88,7 @@ fn trade_ok(edition: Edition, b: &[u8; RECORD], letter: u8) -> bool
 fn event_kept(edition: Edition, b: &[u8; RECORD]) -> bool
     ensures { result ≡ Held.kept (layout_s edition) (record_of b.now) }
 {
-    time_ok(number4(b, TIME)) & (b[LETTER] == S_LETTER) & event_ok(b[EVENT])
+    time_ok(number::<u32>(b, TIME)) & (b[LETTER] == S_LETTER) & event_ok(b[EVENT])
 }
 
 // Those of a C: of what it has in common with a T, and of the new trade.
@@ -93,8 +96,8 @@ fn correction_kept(edition: Edition, b: &[u8; RECORD]) -> bool
     ensures { result ≡ Held.kept (layout_c edition) (record_of b.now) }
 {
     let head = trade_ok(edition, b, C_LETTER);
-    let price = number4(b, NEW_SALE + PRICE);
-    let size = number4(b, NEW_SALE + SIZE);
+    let price = number::<u32>(b, NEW_SALE + PRICE);
+    let size = number::<u32>(b, NEW_SALE + SIZE);
     sale_ok(edition, b, head, NEW_SALE, price, size)
 }
 
@@ -102,13 +105,13 @@ fn correction_kept(edition: Edition, b: &[u8; RECORD]) -> bool
 fn summary_kept(b: &[u8; RECORD]) -> bool
     ensures { result ≡ Held.kept layout_j (record_of b.now) }
 {
-    time_ok(number4(b, TIME))
+    time_ok(number::<u32>(b, TIME))
         & (b[LETTER] == J_LETTER)
         & text(b, SYMBOL, SYMBOL_WIDTH)
         & class_ok(Edition::NlsPlus, b[CLASS])
-        & summary_price_ok(number4(b, HIGH))
-        & summary_price_ok(number4(b, LOW))
-        & summary_price_ok(number4(b, CLOSE))
+        & summary_price_ok(number::<u32>(b, HIGH))
+        & summary_price_ok(number::<u32>(b, LOW))
+        & summary_price_ok(number::<u32>(b, CLOSE))
 }
 
 // Whether a record bears a type's letter and keeps the rules of the fields that the type has, whatever stands in the

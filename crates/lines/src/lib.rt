@@ -106,11 +106,11 @@ fn read(lines: &[u8], at: usize) -> Line
     Line {
         key: key,
         symbol: symbol,
-        price: numbers::number4(lines, at + PRICE),
-        size: numbers::number4(lines, at + SIZE),
+        price: numbers::number::<u32>(lines, at + PRICE),
+        size: numbers::number::<u32>(lines, at + SIZE),
         condition: condition,
-        place: numbers::number4(lines, at + PLACE),
-        time: numbers::number4(lines, at + TIME),
+        place: numbers::number::<u32>(lines, at + PLACE),
+        time: numbers::number::<u32>(lines, at + TIME),
         live: single::byte(lines, at + LIVE) == 1,
     }
 }
@@ -142,11 +142,11 @@ fn store(lines: &mut [u8], at: usize, l: Line)
     let condition = l.condition;
     octets::run::paste(lines, at, &key);
     octets::run::paste(lines, at + SYMBOL, &symbol);
-    numbers::put4(lines, at + PRICE, l.price);
-    numbers::put4(lines, at + SIZE, l.size);
+    numbers::put::<u32>(lines, at + PRICE, l.price);
+    numbers::put::<u32>(lines, at + SIZE, l.size);
     octets::run::paste(lines, at + CONDITION, &condition);
-    numbers::put4(lines, at + PLACE, l.place);
-    numbers::put4(lines, at + TIME, l.time);
+    numbers::put::<u32>(lines, at + PLACE, l.place);
+    numbers::put::<u32>(lines, at + TIME, l.time);
     single::put_byte(lines, at + LIVE, mark_of(l.live));
 }
 

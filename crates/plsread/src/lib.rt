@@ -19,10 +19,15 @@ ghost use Rattle.plsread.specs.Moved.{trade_moved, trade_ready};
 use copies::{copy_byte, copy_four, copy_run};
 use kinds::Kind;
 use number::read_number;
-use numbers::put4;
+use numbers::put;
 use octets::run::fill;
-use pls::{DECIMALS, DIGITS, LONGEST, M_BODY, M_CONDITION, M_LETTER, M_NEW, M_PRICE, M_SALE, M_SIZE, M_TIME, NAMED, PRICE_WIDTH, SIZE_WIDTH, TIME_WIDTH, length_of};
-use records::{CENTRE, CONDITION, CONTROL_WIDTH, EVENT, LETTER, NEW_SALE, OLD_SALE, PRICE, RECORD, SIZE, TIME};
+use pls::{
+    DECIMALS, DIGITS, LONGEST, M_BODY, M_CONDITION, M_LETTER, M_NEW, M_PRICE, M_SALE, M_SIZE,
+    M_TIME, NAMED, PRICE_WIDTH, SIZE_WIDTH, TIME_WIDTH, length_of,
+};
+use records::{
+    CENTRE, CONDITION, CONTROL_WIDTH, EVENT, LETTER, NEW_SALE, OLD_SALE, PRICE, RECORD, SIZE, TIME,
+};
 
 // One more than a record's numbers hold.
 const BOUND: u64 = 4294967296;
@@ -35,7 +40,7 @@ fn move_number(b: &mut [u8], to: usize, m: &[u8], at: usize, width: usize, least
     ensures ready { result ≡ storable least (part m.now at width) }
 {
     let n = read_number(&m[at..at + width], least);
-    put4(b, to, (n.unwrap_or(0) % BOUND) as u32);
+    put::<u32>(b, to, (n.unwrap_or(0) % BOUND) as u32);
     n.is_some_and(|x| x < BOUND)
 }
 

@@ -15,10 +15,16 @@ ghost use Rattle.plswrite.specs.Stored.{sale_shown, head_stored, trade_stored};
 use copies::{copy_byte, copy_four, copy_run};
 use kinds::Kind;
 use number::put_number;
-use numbers::number4;
+use numbers::number;
 use octets::run::paste;
-use pls::{DECIMALS, DIGITS, LONGEST, M_BODY, M_CONDITION, M_LETTER, M_NEW, M_PRICE, M_SALE, M_SIZE, M_TIME, NAMED, PRICE_FULL, PRICE_WIDTH, SIZE_FULL, SIZE_WIDTH, TIME_FULL, TIME_WIDTH, length_of};
-use records::{CENTRE, CONDITION, CONTROL_WIDTH, EVENT, LETTER, NEW_SALE, OLD_SALE, PRICE, SIZE, TIME};
+use pls::{
+    DECIMALS, DIGITS, LONGEST, M_BODY, M_CONDITION, M_LETTER, M_NEW, M_PRICE, M_SALE, M_SIZE,
+    M_TIME, NAMED, PRICE_FULL, PRICE_WIDTH, SIZE_FULL, SIZE_WIDTH, TIME_FULL, TIME_WIDTH,
+    length_of,
+};
+use records::{
+    CENTRE, CONDITION, CONTROL_WIDTH, EVENT, LETTER, NEW_SALE, OLD_SALE, PRICE, SIZE, TIME,
+};
 
 // Stores a trade of a record: control, price, size, condition.
 fn put_sale(out: &mut [u8], to: usize, b: &[u8], at: usize)
@@ -32,7 +38,7 @@ fn put_sale(out: &mut [u8], to: usize, b: &[u8], at: usize)
         PRICE_WIDTH,
         PRICE_FULL,
         DECIMALS,
-        number4(b, at + PRICE),
+        number::<u32>(b, at + PRICE),
     );
     put_number(
         out,
@@ -40,7 +46,7 @@ fn put_sale(out: &mut [u8], to: usize, b: &[u8], at: usize)
         SIZE_WIDTH,
         SIZE_FULL,
         DIGITS,
-        number4(b, at + SIZE),
+        number::<u32>(b, at + SIZE),
     );
     copy_four(out, to + M_CONDITION, b, at + CONDITION);
 }
@@ -51,7 +57,14 @@ fn put_head(out: &mut [u8], b: &[u8])
     requires { 8 ≤ length out.old }
     ensures { out.new ≡ head_stored out.old b.now }
 {
-    put_number(out, M_TIME, TIME_WIDTH, TIME_FULL, DIGITS, number4(b, TIME));
+    put_number(
+        out,
+        M_TIME,
+        TIME_WIDTH,
+        TIME_FULL,
+        DIGITS,
+        number::<u32>(b, TIME),
+    );
     copy_byte(out, M_LETTER, b, LETTER);
 }
 

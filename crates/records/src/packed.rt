@@ -5,8 +5,11 @@ ghost use Rattle.octets.specs.Run.{part};
 ghost use Rattle.records.specs.Fits.{RecordFits};
 ghost use Rattle.records.specs.Packed as W;
 
-use crate::{CENTRE, CLASS, CLOSE, CONDITION, CONSOLIDATED, EVENT, HIGH, LETTER, LOW, NEW_SALE, OLD_SALE, PRICE, RECORD, Record, SIZE, SYMBOL, Sale, TIME};
-use numbers::{number4, number8, put4, put8};
+use crate::{
+    CENTRE, CLASS, CLOSE, CONDITION, CONSOLIDATED, EVENT, HIGH, LETTER, LOW, NEW_SALE, OLD_SALE,
+    PRICE, RECORD, Record, SIZE, SYMBOL, Sale, TIME,
+};
+use numbers::{number, put};
 use octets::run::{fill, paste};
 use single::{byte, put_byte};
 
@@ -26,8 +29,8 @@ fn sale_at(m: &[u8], at: usize) -> Sale
 {
     Sale {
         control: bytes(m, at),
-        price: number4(m, at + PRICE),
-        size: number4(m, at + SIZE),
+        price: number(m, at + PRICE),
+        size: number(m, at + SIZE),
         condition: bytes(m, at + CONDITION),
     }
 }
@@ -38,17 +41,17 @@ pub fn record(b: &[u8; RECORD]) -> Record
 {
     Record {
         letter: byte(b, LETTER),
-        time: number4(b, TIME),
+        time: number(b, TIME),
         event: byte(b, EVENT),
         centre: byte(b, CENTRE),
         symbol: bytes(b, SYMBOL),
         class: byte(b, CLASS),
         sale: sale_at(b, OLD_SALE),
         new: sale_at(b, NEW_SALE),
-        high: number4(b, HIGH),
-        low: number4(b, LOW),
-        close: number4(b, CLOSE),
-        consolidated: number8(b, CONSOLIDATED),
+        high: number(b, HIGH),
+        low: number(b, LOW),
+        close: number(b, CLOSE),
+        consolidated: number(b, CONSOLIDATED),
     }
 }
 
@@ -66,8 +69,8 @@ fn put_sale(out: &mut [u8], at: usize, s: Sale)
     ensures { out.new ≡ sets out.old at (W.sale_bytes s) }
 {
     paste(out, at, &s.control);
-    put4(out, at + PRICE, s.price);
-    put4(out, at + SIZE, s.size);
+    put(out, at + PRICE, s.price);
+    put(out, at + SIZE, s.size);
     paste(out, at + CONDITION, &s.condition);
 }
 
@@ -76,7 +79,7 @@ fn put_front(b: &mut [u8], r: Record)
     ensures { b.new ≡ sets b.old 0 (W.front_bytes r) }
 {
     put_byte(b, LETTER, r.letter);
-    put4(b, TIME, r.time);
+    put(b, TIME, r.time);
     put_byte(b, EVENT, r.event);
     put_byte(b, CENTRE, r.centre);
     paste(b, SYMBOL, &r.symbol);
@@ -87,10 +90,10 @@ fn put_front(b: &mut [u8], r: Record)
 fn put_end(b: &mut [u8], r: Record)
     ensures { b.new ≡ sets b.old 60 (W.end_bytes r) }
 {
-    put4(b, HIGH, r.high);
-    put4(b, LOW, r.low);
-    put4(b, CLOSE, r.close);
-    put8(b, CONSOLIDATED, r.consolidated);
+    put(b, HIGH, r.high);
+    put(b, LOW, r.low);
+    put(b, CLOSE, r.close);
+    put(b, CONSOLIDATED, r.consolidated);
 }
 
 // Stores a record as its eighty bytes. What stood there before is gone.

@@ -88,8 +88,8 @@ fn summary_at(rows: &[u8], at: usize) -> Option<HighLow>
     requires { at + row_cell ≤ length rows.now }
     ensures { result ≡ summary_at rows.now at }
 {
-    let high = numbers::number4(rows, at + HIGH);
-    let low = numbers::number4(rows, at + LOW);
+    let high = numbers::number::<u32>(rows, at + HIGH);
+    let low = numbers::number::<u32>(rows, at + LOW);
     if single::byte(rows, at + SUMMARY) == 1 {
         Some(HighLow { high, low })
     } else {
@@ -101,7 +101,7 @@ fn reported_at(rows: &[u8], at: usize) -> Option<u64>
     requires { at + row_cell ≤ length rows.now }
     ensures { result ≡ reported_at rows.now at }
 {
-    let volume = numbers::number8(rows, at + VOLUME);
+    let volume = numbers::number::<u64>(rows, at + VOLUME);
     if single::byte(rows, at + REPORTED) == 1 {
         Some(volume)
     } else {
@@ -118,7 +118,7 @@ fn listing_at(rows: &[u8], at: usize) -> Listing
     octets::run::fill(&mut symbol, rows, at);
     Listing {
         symbol: symbol,
-        close: numbers::number4(rows, at + CLOSE),
+        close: numbers::number::<u32>(rows, at + CLOSE),
     }
 }
 
@@ -167,7 +167,7 @@ pub fn put(rows: &mut [u8], i: usize, l: Listing)
         let symbol = l.symbol;
         let rest = [0u8; CELL - SUMMARY];
         octets::run::paste(rows, at, &symbol);
-        numbers::put4(rows, at + CLOSE, l.close);
+        numbers::put::<u32>(rows, at + CLOSE, l.close);
         octets::run::paste(rows, at + SUMMARY, &rest);
     }
 }
@@ -179,7 +179,7 @@ pub fn report(rows: &mut [u8], i: usize, volume: u64)
     if i < limit(rows.len()) {
         let at = i * CELL;
         single::put_byte(rows, at + REPORTED, 1);
-        numbers::put8(rows, at + VOLUME, volume);
+        numbers::put::<u64>(rows, at + VOLUME, volume);
     }
 }
 
@@ -190,7 +190,7 @@ pub fn summarise(rows: &mut [u8], i: usize, high: u32, low: u32)
     if i < limit(rows.len()) {
         let at = i * CELL;
         single::put_byte(rows, at + SUMMARY, 1);
-        numbers::put4(rows, at + HIGH, high);
-        numbers::put4(rows, at + LOW, low);
+        numbers::put::<u32>(rows, at + HIGH, high);
+        numbers::put::<u32>(rows, at + LOW, low);
     }
 }

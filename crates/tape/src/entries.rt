@@ -8,7 +8,7 @@ ghost use Rattle.tape.specs.Playing.{acted};
 use crate::Stop;
 use counters::Counters;
 use kinds::kind_of;
-use numbers::number4;
+use numbers::number;
 use octets::run::fill;
 use packing::length_of;
 use rows::Listing;
@@ -77,7 +77,7 @@ fn list_entry(c: Counters, rows: &mut [u8], lines: &[u8], bytes: &[u8]) -> Count
 {
     let mut symbol = [0u8; SYMBOL];
     fill(&mut symbol, bytes, KIND);
-    let close = number4(bytes, CLOSE_AT);
+    let close = number::<u32>(bytes, CLOSE_AT);
     let l = Listing {
         symbol: symbol,
         close: close,
@@ -92,7 +92,7 @@ fn deliver_entry(c: Counters, rows: &mut [u8], lines: &mut [u8], bytes: &[u8]) -
     ensures { lent result rows.new lines.new
         ≡ acted (lent c rows.old lines.old) (delivery bytes.now) }
 {
-    let number = number4(bytes, KIND) as u64;
+    let number = number::<u32>(bytes, KIND) as u64;
     let said = book::deliver(c, rows, lines, number, &bytes[MESSAGE_AT..]);
     said.counters
 }

@@ -62,8 +62,8 @@ pub fn with_length(s: Sample, length: usize) -> Sample {
 // Stores a number of four bytes or of eight.
 fn put_number(out: &mut [u8], at: usize, width: usize, x: u64) {
     if width == 4 {
-        numbers::put4(out, at, (x % 4294967296) as u32);
+        numbers::put::<u32>(out, at, (x % 4294967296) as u32);
     } else {
-        numbers::put8(out, at, x);
+        numbers::put::<u64>(out, at, x);
     }
 }

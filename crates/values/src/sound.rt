@@ -2,14 +2,14 @@
 ghost use Rattle.std.specs.Prelude.{◌<◌};
 
 use crate::sample::Sample;
-use numbers::{put4, put8};
+use numbers::put;
 use octets::run::paste;
 use single::put_byte;
 
 // A system event.
 pub fn event() -> Sample {
     let mut bytes = [0u8; 80];
-    put4(&mut bytes, 0, 34200000);
+    put::<u32>(&mut bytes, 0, 34200000);
     paste(&mut bytes, 4, b"SO");
     Sample {
         kind: b'S',
@@ -22,7 +22,7 @@ pub fn event() -> Sample {
 pub fn trade(kind: u8) -> Sample {
     let mut bytes = [0u8; 80];
     original(&mut bytes, kind);
-    put8(&mut bytes, 37, 1000);
+    put::<u64>(&mut bytes, 37, 1000);
     Sample {
         kind,
         bytes,
@@ -35,7 +35,7 @@ pub fn correction() -> Sample {
     let mut bytes = [0u8; 80];
     original(&mut bytes, b'C');
     sale(&mut bytes, 37, b"345       ");
-    put8(&mut bytes, 59, 1000);
+    put::<u64>(&mut bytes, 59, 1000);
     Sample {
         kind: b'C',
         bytes,
@@ -46,10 +46,10 @@ pub fn correction() -> Sample {
 // An end of day trade summary.
 pub fn summary() -> Sample {
     let mut bytes = [0u8; 80];
-    put4(&mut bytes, 0, 72000000);
+    put::<u32>(&mut bytes, 0, 72000000);
     paste(&mut bytes, 4, b"JABCD    Q");
     prices(&mut bytes);
-    put8(&mut bytes, 26, 1000);
+    put::<u64>(&mut bytes, 26, 1000);
     Sample {
         kind: b'J',
         bytes,
@@ -59,7 +59,7 @@ pub fn summary() -> Sample {
 
 // What T, X and C have alike, to offset 36.
 fn original(out: &mut [u8], kind: u8) {
-    put4(out, 0, 36000000);
+    put::<u32>(out, 0, 36000000);
     put_byte(out, 4, kind);
     paste(out, 5, b"QABCD    Q");
     sale(out, 15, b"12        ");
@@ -70,14 +70,14 @@ fn sale(out: &mut [u8], at: usize, control: &[u8])
     requires { at < 80 }
 {
     paste(out, at, control);
-    put4(out, at + 10, 250000);
-    put4(out, at + 14, 100);
+    put::<u32>(out, at + 10, 250000);
+    put::<u32>(out, at + 14, 100);
     paste(out, at + 18, b"@   ");
 }
 
 // A summary's high, low and close.
 fn prices(out: &mut [u8]) {
-    put4(out, 14, 260000);
-    put4(out, 18, 249000);
-    put4(out, 22, 252500);
+    put::<u32>(out, 14, 260000);
+    put::<u32>(out, 18, 249000);
+    put::<u32>(out, 22, 252500);
 }

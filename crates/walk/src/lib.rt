@@ -53,9 +53,9 @@ fn with_line(t: Figures, lines: &[u8], at: usize) -> Figures
 {
     let mut condition = [0u8; 4];
     octets::run::fill(&mut condition, lines, at + CONDITION);
-    let price = numbers::number4(lines, at + PRICE);
-    let size = numbers::number4(lines, at + SIZE);
-    let place = numbers::number4(lines, at + PLACE);
+    let price = numbers::number::<u32>(lines, at + PRICE);
+    let size = numbers::number::<u32>(lines, at + SIZE);
+    let place = numbers::number::<u32>(lines, at + PLACE);
     with_sale(
         t,
         price,

@@ -8,7 +8,7 @@ ghost use Rattle.words.specs.Words as W;
 
 use counters::{Counters, Start};
 use editions::{Edition, edition_of};
-use numbers::number8;
+use numbers::number;
 use show::RowShown;
 
 // How many words the counters are, and how many a row is.
@@ -88,7 +88,7 @@ pub fn put_row(w: &mut [u64; ROW], r: RowShown)
 {
     let symbol = r.symbol;
     *w = [
-        number8(&symbol, 0),
+        number::<u64>(&symbol, 0),
         u64::from(r.close),
         mark(&r.last),
         price_word(r.last),

@@ -8,5 +8,5 @@ use Rattle.judge.proofs.correction_kept.Goals as goal
 
 pub returns : goal.returns
 unfolding record_of read_by record_from new_from packed slots part tab
-returns c = simp (c.sale_ok.ensures, c.number4-size.ensures, c.number4-price.ensures, c.trade_ok-head.ensures)
+returns c = simp (c.sale_ok.ensures, c.number-size.ensures, c.number-price.ensures, c.trade_ok-head.ensures)
     (c_rules c.args.edition (record_of c.args.b.now))

@@ -9,4 +9,4 @@ use Rattle.judge.proofs.event_kept.Goals as goal
 pub returns : goal.returns
 unfolding record_of read_by record_from packed slots part tab
 returns c = let a = c.args in
-    simp (c.event_ok.ensures, c.time_ok.ensures, c.number4.ensures) (s_rules a.edition (record_of a.b.now))
+    simp (c.event_ok.ensures, c.time_ok.ensures, c.number.ensures) (s_rules a.edition (record_of a.b.now))

@@ -12,14 +12,14 @@ pub returns : goal.returns
 unfolding record_of read_by record_from sale_from new_from holds packed slots part tab kept_by layout_j
 returns c = simp (
   c.summary_price_ok-3.ensures,
-  c.number4-4.ensures,
+  c.number-4.ensures,
   c.summary_price_ok-2.ensures,
-  c.number4-3.ensures,
+  c.number-3.ensures,
   c.summary_price_ok.ensures,
-  c.number4-2.ensures,
+  c.number-2.ensures,
   c.class_ok.ensures,
   c.text.ensures,
   c.time_ok.ensures,
-  c.number4.ensures,
+  c.number.ensures,
   and-true,
 )

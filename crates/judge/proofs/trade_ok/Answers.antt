@@ -10,11 +10,11 @@ pub returns : goal.returns
 unfolding record_of read_by record_from sale_from packed slots part tab sale_rules trade_rules
 returns c = simp (
   c.sale_ok.ensures,
-  c.number4-size.ensures,
-  c.number4-price.ensures,
+  c.number-size.ensures,
+  c.number-price.ensures,
   c.class_ok.ensures,
   c.text.ensures,
   c.centre_ok.ensures,
   c.time_ok.ensures,
-  c.number4.ensures,
+  c.number.ensures,
 )

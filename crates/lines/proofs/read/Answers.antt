@@ -7,10 +7,10 @@ pub returns : goal.returns
 unfolding line_from
 returns c = simp (
   c.byte.ensures,
-  c.number4-4.ensures,
-  c.number4-3.ensures,
-  c.number4-2.ensures,
-  c.number4.ensures,
+  c.number-4.ensures,
+  c.number-3.ensures,
+  c.number-2.ensures,
+  c.number.ensures,
   c.fill-3.ensures,
   c.fill-2.ensures,
   c.fill.ensures,

@@ -13,6 +13,6 @@ returns c =
     let symbol-long : length c.args.l.symbol ≡ 8 = search rules in
     let condition-long : length c.args.l.condition ≡ 4 = search rules in
     line_stored c.args.lines.now _ _ _ _ _ _ _ _ c.args.at c.args.l key-long symbol-long condition-long
-    c.paste.ensures c.paste-2.ensures c.put4.ensures c.put4-2.ensures
-    c.paste-3.ensures c.put4-3.ensures c.put4-4.ensures _ c.mark_of.ensures
+    c.paste.ensures c.paste-2.ensures c.put.ensures c.put-2.ensures
+    c.paste-3.ensures c.put-3.ensures c.put-4.ensures _ c.mark_of.ensures
     c.put_byte.ensures

@@ -20,7 +20,7 @@ returns-clause-bytes c = let a = c.args in
     let said = c.read_number-n.ensures
     ∙ ap (number_of a.least) (lent a.m.now a.at (a.at + a.width) a.width (omega arith) (omega arith)) in
     let value = c.unwrap_or.ensures ∙ ap (λ (o : Option ℕ). unwrap_or o 0) said ∙ value_told a.least _ in
-    c.put4.ensures ∙ ap (sets a.b.now a.to) (low_four c.unwrap_or.result ∙ ap (digits 4) value)
+    c.put.ensures ∙ ap (sets a.b.now a.to) (low_four c.unwrap_or.result ∙ ap (digits 4) value)
 
 pub returns-clause-ready : goal.returns-clause-ready
 returns-clause-ready c = let a = c.args in

@@ -8,9 +8,9 @@ returns c = let a = c.args in
     rw (
       c.copy_four.ensures,
       c.put_number-2.ensures,
-      c.number4-2.ensures,
+      c.number-2.ensures,
       c.put_number.ensures,
-      c.number4.ensures,
+      c.number.ensures,
       c.copy_run.ensures,
     )
     (sale_shown_lem a.out.now a.b.now a.to a.at)

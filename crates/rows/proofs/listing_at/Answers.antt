@@ -6,4 +6,4 @@ use Rattle.rows.proofs.listing_at.Goals as goal
 
 pub returns : goal.returns
 unfolding listing_from
-returns c = simp (c.number4.ensures, c.fill.ensures) refl
+returns c = simp (c.number.ensures, c.fill.ensures) refl

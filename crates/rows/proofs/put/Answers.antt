@@ -15,7 +15,7 @@ unfolding in_row
 returns-then-i-limit c =
     let symbol-long : length c.args.l.symbol ≡ 8 = search rules in
     let a = c.args in
-    row_stored a.rows.now _ _ _ (a.i * row_cell) a.l symbol-long c.paste.ensures c.put4.ensures
+    row_stored a.rows.now _ _ _ (a.i * row_cell) a.l symbol-long c.paste.ensures c.put.ensures
     c.paste-then-i-limit.ensures
     ∙ sym (inside _ _ _ _ _ c.limit.ensures c.if-i-limit.true)
 

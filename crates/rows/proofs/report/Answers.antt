@@ -12,7 +12,7 @@ pub returns-then-i-limit : goal.returns-then-i-limit
 unfolding in_row
 returns-then-i-limit c = let a = c.args in
     report_stored a.rows.now _ _ (a.i * row_cell) a.volume
-    c.put_byte.ensures c.put8.ensures
+    c.put_byte.ensures c.put.ensures
     ∙ sym (inside _ _ _ _ _ c.limit.ensures
     c.if-i-limit.true)
 

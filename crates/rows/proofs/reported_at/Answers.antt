@@ -7,7 +7,7 @@ use Rattle.rows.proofs.reported_at.Goals as goal
 
 pub returns-then-byte-eq1 : goal.returns-then-byte-eq1
 unfolding reported_at
-returns-then-byte-eq1 c = simp (eq-eqb _ _ (sym c.byte.ensures ∙ c.if-byte-eq1.true), c.number8-volume.ensures) refl
+returns-then-byte-eq1 c = simp (eq-eqb _ _ (sym c.byte.ensures ∙ c.if-byte-eq1.true), c.number-volume.ensures) refl
 
 pub returns-else-byte-eq1 : goal.returns-else-byte-eq1
 unfolding reported_at

@@ -14,7 +14,7 @@ returns-then-i-limit c = let a
     = c.args in
     summary_stored a.rows.now _ _ _ (a.i * row_cell) a.high a.low
     c.put_byte.ensures
-    c.put4.ensures c.put4-then-i-limit.ensures
+    c.put.ensures c.put-then-i-limit.ensures
     ∙ sym (inside _ _ _ _ _ c.limit.ensures c.if-i-limit.true)
 
 pub returns-else-i-limit : goal.returns-else-i-limit

@@ -9,8 +9,8 @@ pub returns-then-byte-eq1 : goal.returns-then-byte-eq1
 unfolding summary_at
 returns-then-byte-eq1 c = simp (
   eq-eqb _ _ (sym c.byte.ensures ∙ c.if-byte-eq1.true),
-  c.number4-low.ensures,
-  c.number4-high.ensures,
+  c.number-low.ensures,
+  c.number-high.ensures,
 ) refl
 
 pub returns-else-byte-eq1 : goal.returns-else-byte-eq1

@@ -11,8 +11,8 @@ pub returns : goal.returns
 unfolding sold
 returns c = let v = ap (λ (r : Figures). r.volume) c.with_sale.ensures in
     let n = ap (λ (r : Figures). r.count) c.with_sale.ensures in record {
-      value = dealt_read c.args.lines.now c.args.t _ c.args.at _ _ _ _ _ c.fill.ensures c.number4-price.ensures
-          c.number4-size.ensures c.number4-place.ensures c.condition_marks.ensures
+      value = dealt_read c.args.lines.now c.args.t _ c.args.at _ _ _ _ _ c.fill.ensures c.number-price.ensures
+          c.number-size.ensures c.number-place.ensures c.condition_marks.ensures
           c.with_sale.ensures;
-      volume_bound_2 = omega (arith, v, n, c.number4-size.type_inv);
+      volume_bound_2 = omega (arith, v, n, c.number-size.type_inv);
     }

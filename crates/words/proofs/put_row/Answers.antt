@@ -45,6 +45,6 @@ returns c =
       c.price_word.ensures,
       c.mark.ensures,
       close,
-      c.number8.ensures,
+      c.number.ensures,
       whole r.symbol 8 symbol-long,
     )

@@ -5,4 +5,4 @@ use Rattle.records.proofs.packed.put_end.Goals as goal
 
 pub returns : goal.returns
 returns c = let a = c.args in
-    rw (c.put8.ensures, c.put4-3.ensures, c.put4-2.ensures, c.put4.ensures) (end-stored a.b.now a.r)
+    rw (c.put-4.ensures, c.put-3.ensures, c.put-2.ensures, c.put.ensures) (end-stored a.b.now a.r)

@@ -14,6 +14,6 @@ returns c =
       c.paste.ensures,
       c.put_byte-3.ensures,
       c.put_byte-2.ensures,
-      c.put4.ensures,
+      c.put.ensures,
       c.put_byte.ensures,
     ) (front_stored c.args.b.now c.args.r long)

@@ -10,5 +10,5 @@ pub returns : goal.returns
 returns c =
     let long : length c.args.s.control ≡ 10 = search rules in
     let a = c.args in
-    rw (c.paste-2.ensures, c.put4-2.ensures, c.put4.ensures, c.paste.ensures)
+    rw (c.paste-2.ensures, c.put-2.ensures, c.put.ensures, c.paste.ensures)
     (sale_stored a.out.now a.at a.s long)

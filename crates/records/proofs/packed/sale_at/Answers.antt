@@ -6,4 +6,4 @@ use Rattle.records.proofs.packed.sale_at.Goals as goal
 
 pub returns : goal.returns
 unfolding W.sale_at sale_from
-returns c = simp (c.bytes-2.ensures, c.number4-2.ensures, c.number4.ensures, c.bytes.ensures)
+returns c = simp (c.bytes-2.ensures, c.number-2.ensures, c.number.ensures, c.bytes.ensures)
