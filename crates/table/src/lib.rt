@@ -16,6 +16,15 @@ use kinds::{Kind, is_event, makes_new, names_old};
 use phases::is_due;
 use records::Record;
 
+// The rooms that a message is judged by, and how many rows and lines of them are in use.
+#[derive(Clone, Copy)]
+pub struct Rooms<'a> {
+    pub rows: &'a [u8],
+    pub listed: usize,
+    pub lines: &'a [u8],
+    pub used: usize,
+}
+
 // What acting on a message needs: the row of its symbol and the line that it names; 0 where it needs none.
 #[derive(Clone, Copy)]
 pub struct Named {
@@ -40,16 +49,16 @@ pub fn judge_number(wanted: u64, number: u64) -> Result<(), Refusal>
 }
 
 // 8, 9, 10, or the line that X and C name. Another type names none.
-fn judge_old(lines: &[u8], used: usize, kind: Kind, r: Record) -> Result<usize, Refusal>
-    ensures { Working.line_told result ≡ Working.named_by (ledger_in lines.now used) kind r }
+fn judge_old(rooms: Rooms, kind: Kind, r: Record) -> Result<usize, Refusal>
+    ensures { Working.line_told result ≡ Working.named_by (ledger_in rooms.lines.now rooms.used) kind r }
 {
     if !names_old(kind) {
         return Ok(0);
     }
-    let Some(i) = lines::find(lines, used, old_key(r)) else {
+    let Some(i) = lines::find(rooms.lines, rooms.used, old_key(r)) else {
         return Err(Refusal::NoLine);
     };
-    let l = lines::get(lines, i);
+    let l = lines::get(rooms.lines, i);
     if !l.live {
         return Err(Refusal::LineDead);
     }
@@ -60,63 +69,52 @@ fn judge_old(lines: &[u8], used: usize, kind: Kind, r: Record) -> Result<usize, 
 }
 
 // 11 or 12 of a line that T and C make. Another type makes none.
-fn judge_new(lines: &[u8], used: usize, kind: Kind, r: Record) -> Result<(), Refusal>
-    ensures { result ≡ answer_of (Working.made_by (ledger_in lines.now used) kind r) }
+fn judge_new(rooms: Rooms, kind: Kind, r: Record) -> Result<(), Refusal>
+    ensures { result ≡ answer_of (Working.made_by (ledger_in rooms.lines.now rooms.used) kind r) }
 {
     if !makes_new(kind) {
         return Ok(());
     }
-    if lines::find(lines, used, new_key(kind, r)).is_some() {
+    if lines::find(rooms.lines, rooms.used, new_key(kind, r)).is_some() {
         return Err(Refusal::KeyUsed);
     }
-    if lines::limit(lines.len()) <= used {
+    if lines::limit(rooms.lines.len()) <= rooms.used {
         return Err(Refusal::LinesFull);
     }
     Ok(())
 }
 
 // 8 to 12, or the line that X and C name.
-fn judge_trade(lines: &[u8], used: usize, kind: Kind, r: Record) -> Result<usize, Refusal>
-    ensures { Working.line_told result ≡ Working.trade_by (ledger_in lines.now used) kind r }
+fn judge_trade(rooms: Rooms, kind: Kind, r: Record) -> Result<usize, Refusal>
+    ensures { Working.line_told result ≡ Working.trade_by (ledger_in rooms.lines.now rooms.used) kind r }
 {
-    let line = judge_old(lines, used, kind, r)?;
-    judge_new(lines, used, kind, r)?;
+    let line = judge_old(rooms, kind, r)?;
+    judge_new(rooms, kind, r)?;
     Ok(line)
 }
 
 // 7 to 12, or the row of the message's symbol and the line that it names.
-fn judge_listed(
-    rows: &[u8],
-    listed: usize,
-    lines: &[u8],
-    used: usize,
-    kind: Kind,
-    r: Record,
-) -> Result<Named, Refusal>
+fn judge_listed(rooms: Rooms, kind: Kind, r: Record) -> Result<Named, Refusal>
     ensures { Working.told result
-        ≡ Working.listed_by (used_sheet rows.now listed) (ledger_in lines.now used) kind r }
+        ≡ Working.listed_by (used_sheet rooms.rows.now rooms.listed) (ledger_in rooms.lines.now rooms.used) kind r }
 {
     let symbol = r.symbol;
-    let Some(row) = rows::find(rows, listed, symbol) else {
+    let Some(row) = rows::find(rooms.rows, rooms.listed, symbol) else {
         return Err(Refusal::NotListed);
     };
-    let line = judge_trade(lines, used, kind, r)?;
+    let line = judge_trade(rooms, kind, r)?;
     Ok(Named { row, line })
 }
 
-// What the table gives a reading of a type: what refused it, or 6 to 12, or what acting on it needs. `listed` rows and
-// `used` lines of the rooms are in use.
+// What the table gives a reading of a type: what refused it, or 6 to 12, or what acting on it needs.
 pub fn judge(
     phase: u64,
-    rows: &[u8],
-    listed: usize,
-    lines: &[u8],
-    used: usize,
+    rooms: Rooms,
     kind: Kind,
     q: Result<Record, Refusal>,
 ) -> Result<Named, Refusal>
     ensures { Working.told result
-        ≡ Working.judged_by (basis_in phase rows.now listed lines.now used) kind (reading_of q) }
+        ≡ Working.judged_by (basis_in phase rooms.rows.now rooms.listed rooms.lines.now rooms.used) kind (reading_of q) }
 {
     let r = q?;
     if !is_due(phase, kind, r.event) {
@@ -125,5 +123,5 @@ pub fn judge(
     if is_event(kind) {
         return Ok(Named { row: 0, line: 0 });
     }
-    judge_listed(rows, listed, lines, used, kind, r)
+    judge_listed(rooms, kind, r)
 }

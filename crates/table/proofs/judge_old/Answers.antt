@@ -14,22 +14,22 @@ returns-then-not-names_old c = named_not _ _ _ _ (sym c.names_old.ensures ∙ c.
 pub returns-in_default : goal.returns-in_default
 returns-in_default c = let a = c.args in
     let none : c.find.result ≡ None = search rules in
-    named_none a.kind a.r a.lines.now a.used (sym c.names_old.ensures ∙ c.if-not-names_old.false)
+    named_none a.kind a.r a.rooms.lines.now a.rooms.used (sym c.names_old.ensures ∙ c.if-not-names_old.false)
     (found_for _ _ _ _ _ c.find.ensures c.old_key.ensures none)
 
 pub returns-then-not-l : goal.returns-then-not-l
 returns-then-not-l c = let a = c.args in
-    named_dead a.kind a.r a.lines.now a.used (sym c.names_old.ensures ∙ c.if-not-names_old.false) _
+    named_dead a.kind a.r a.rooms.lines.now a.rooms.used (sym c.names_old.ensures ∙ c.if-not-names_old.false) _
     (found_for _ _ _ _ _ c.find.ensures c.old_key.ensures c.in-Some.is) _ c.get-l.ensures (not-true _ c.if-not-l.true)
 
 pub returns-then-not-is_match : goal.returns-then-not-is_match
 returns-then-not-is_match c = let a = c.args in
-    named_live a.kind a.r a.lines.now a.used (sym c.names_old.ensures ∙ c.if-not-names_old.false) _
+    named_live a.kind a.r a.rooms.lines.now a.rooms.used (sym c.names_old.ensures ∙ c.if-not-names_old.false) _
     (found_for _ _ _ _ _ c.find.ensures c.old_key.ensures c.in-Some.is) _ c.get-l.ensures (not-false _ c.if-not-l.false)
     false (sym c.if-not-is_match.true ∙ c.is_match.ensures)
 
 pub returns : goal.returns
 returns c = let a = c.args in
-    named_live a.kind a.r a.lines.now a.used (sym c.names_old.ensures ∙ c.if-not-names_old.false) _
+    named_live a.kind a.r a.rooms.lines.now a.rooms.used (sym c.names_old.ensures ∙ c.if-not-names_old.false) _
     (found_for _ _ _ _ _ c.find.ensures c.old_key.ensures c.in-Some.is) _ c.get-l.ensures (not-false _ c.if-not-l.false)
     true (sym c.if-not-is_match.false ∙ c.is_match.ensures)
