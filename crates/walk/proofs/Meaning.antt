@@ -169,15 +169,11 @@ module _ (ls : List Line) (l : Line) where
 
   last_more : (h : Option LastTrade) → IsLast ls h → IsLast (ls ++ (l ∷ [])) (later h l.place l.price)
   last_more None e = newest_only e
-  last_more (Some last) e = go (ltb v l.place) refl
+  last_more (Some last) e = go (ltb last.place l.place) refl
     where
-      v p : ℕ
-      v = last.place
-      p = last.price
-
-      go : (t : Bool) → ltb v l.place ≡ t → IsLast (ls ++ (l ∷ [])) (cond t (Some (last_trade l.place l.price)) (Some last))
-      go true t = newest_new v p e (ltb-true v l.place t)
-      go false t = newest_kept v p e (ltb-false v l.place t)
+      go : (t : Bool) → ltb last.place l.place ≡ t → IsLast (ls ++ (l ∷ [])) (cond t (Some (last_trade l.place l.price)) (Some last))
+      go true t = newest_new last.place last.price e (ltb-true last.place l.place t)
+      go false t = newest_kept last.place last.price e (ltb-false last.place l.place t)
 
 -- ---- one more line, for all of them
 
