@@ -45,10 +45,3 @@ pointwise_same [] [] = refl
 pointwise_same [] (y ∷ ys) = refl
 pointwise_same (x ∷ xs) [] = refl
 pointwise_same (x ∷ xs) (y ∷ ys) = ap (λ (b : Bool). eqb x y && b) (pointwise_same xs ys)
-
--- the first bytes of a slice, compared with a run
-pub front_same : (m xs : List ℕ) (n : ℕ) → n ≤ length m → pointwise eqb (take n m) xs ≡ same (part m 0 n) xs
-front_same m xs n h =
-    let e : n - 0 ≡ n = omega arith in
-    let f : take n m ≡ part m 0 n = rw e at (lent m 0 n n e (omega arith)) in
-    pointwise_same (take n m) xs ∙ ap (λ (l : List ℕ). same l xs) f

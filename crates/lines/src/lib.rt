@@ -5,7 +5,7 @@ ghost use Rattle.std.specs.Prelude.{◌≡◌, ◌+◌, ◌*◌, ◌≤◌, leng
 ghost use Rattle.std.proofs.lemmas.List.Edits.{sets};
 ghost use Rattle.lines.specs.Cell.{line_cap, line_cell};
 ghost use Rattle.lines.specs.Lines.{line_from, line_bytes, mark, no_line, line_limit, used_lines};
-ghost use Rattle.lines.specs.Lines.{line_with, line_in, with_line, with_dead};
+ghost use Rattle.lines.specs.Lines.{bears, line_with, line_in, with_line, with_dead};
 ghost use Rattle.lines.specs.Alone.{line_alone};
 ghost use borrow.Author.Rules.{rules};
 
@@ -35,13 +35,13 @@ pub const CELL: usize = 40;
 
 pub const SYMBOL: usize = KEY;
 
-pub const PRICE: usize = 19;
+const PRICE: usize = 19;
 
-pub const SIZE: usize = 23;
+const SIZE: usize = 23;
 
-pub const CONDITION: usize = 27;
+const CONDITION: usize = 27;
 
-pub const PLACE: usize = 31;
+const PLACE: usize = 31;
 
 const TIME: usize = 35;
 
@@ -54,11 +54,21 @@ pub fn limit(room: usize) -> usize
     cells::limit::<Line>(room)
 }
 
+// Whether the line of a cell bears the key. Eight bytes are compared as one number: as a slice, all eleven would be
+// compared by a call for each line whose first four bytes are the key's.
+fn bears(cell: &[u8], key: &[u8; KEY]) -> bool
+    requires { length cell.now ≡ line_cell }
+    ensures { result ≡ bears key.now (line_from cell.now 0) }
+{
+    eights::low8(cell, 0) == eights::low8(key, 0) && cell[8..KEY] == key[8..]
+}
+
 // The first used line that bears the key.
+#[tactic(auto, unfolding(crate::specs::Lines::used_lines))]
 pub fn find(lines: &[u8], used: usize, key: [u8; KEY]) -> Option<usize>
     ensures { result ≡ line_with key (used_lines lines.now used) }
 {
-    cells::find::<Line, _>(lines, used, |cell| cell[..KEY] == key[..])
+    cells::find::<Line, _>(lines, used, |cell| bears(cell, &key))
 }
 
 impl Cell for Line {

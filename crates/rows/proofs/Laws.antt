@@ -1,6 +1,6 @@
 -- A row stored field by field: each step is what one store left.
 -- Assumes nothing.
-use mathlib.Core.Path.{◌≡◌, refl, ap, sym, ◌∙◌}
+use mathlib.Core.Path.{◌≡◌, ap, sym, ◌∙◌}
 use mathlib.Core.List.{List, [], ◌∷◌, ◌++◌}
 use Prim.Native.Nat.{ℕ, ◌+◌, ◌-◌, ◌*◌, ◌<◌}
 use native.Mathlib.Nat.{add-zero}
@@ -18,7 +18,7 @@ use Rattle.cells.proofs.Laws.{inside, then_stored}
 pub in_place : (m : List ℕ) (i at from : ℕ) (xs : List ℕ) → i < row_limit (length m) → at ≡ i * row_cell
     → sets m (at + from) xs ≡ in_row m i from xs
 unfolding in_row
-in_place m i at from xs h e = rw e (sym (inside (sets m (i * row_cell + from) xs) m i (row_limit (length m)) _ refl h))
+in_place m i at from xs h e = rw e (sym (inside (sets m (i * row_cell + from) xs) m i (row_limit (length m)) h))
 
 pub row_stored : (m a b out : List ℕ) (at : ℕ) (l : Listing) → length l.symbol ≡ 8
     → a ≡ sets m at l.symbol → b ≡ sets a (at + at_close) (digits 4 l.close)
