@@ -22,4 +22,5 @@ cells_used cap size read m used = tab (λ (i : ℕ). read m (i * size)) 0 (min u
 
 -- a test of a cell's bytes answers whether what the cell holds serves
 abbrev pub Tells : {A : Type 0} → (Bor (List ℕ) → Bool → Type 0) → ℕ → (List ℕ → ℕ → A) → (A → Bool) → Type 0
-Tells answers size read serves = (cell : Bor (List ℕ)) (r : Bool) → length cell.now ≡ size → Bytes cell.now → answers cell r → r ≡ serves (read cell.now 0)
+Tells answers size read serves = (cell : Bor (List ℕ)) (r : Bool) → length cell.now ≡ size → Bytes cell.now → answers cell r
+    → r ≡ serves (read cell.now 0)

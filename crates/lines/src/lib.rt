@@ -130,14 +130,11 @@ fn store(lines: &mut [u8], at: usize, l: Line)
     requires { at + line_cell ≤ length lines.old }
     ensures { lines.new ≡ sets lines.old at (line_bytes l) }
 {
-    let key = l.key;
-    let symbol = l.symbol;
-    let condition = l.condition;
-    octets::run::paste(lines, at, &key);
-    octets::run::paste(lines, at + SYMBOL, &symbol);
+    octets::run::paste(lines, at, &l.key);
+    octets::run::paste(lines, at + SYMBOL, &l.symbol);
     numbers::put4(lines, at + PRICE, l.price);
     numbers::put4(lines, at + SIZE, l.size);
-    octets::run::paste(lines, at + CONDITION, &condition);
+    octets::run::paste(lines, at + CONDITION, &l.condition);
     numbers::put4(lines, at + PLACE, l.place);
     numbers::put4(lines, at + TIME, l.time);
     lines[at + LIVE] = u8::from(l.live);

@@ -159,8 +159,7 @@ pub fn put(rows: &mut [u8], i: usize, l: Listing)
     ensures { rows.new ≡ with_row rows.old i l }
 {
     if let Some(at) = place::<Row>(rows.len(), i) {
-        let symbol = l.symbol;
-        octets::run::paste(rows, at, &symbol);
+        octets::run::paste(rows, at, &l.symbol);
         numbers::put4(rows, at + CLOSE, l.close);
         octets::run::paste(rows, at + SUMMARY, &[0; CELL - SUMMARY]);
     }

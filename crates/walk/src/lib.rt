@@ -20,8 +20,7 @@ fn with_line(t: Figures, l: Line) -> Figures
     ensures value { result ≡ dealt t l }
     ensures one_more { (result.volume < t.volume + 2 ^ 32) × (result.count ≤ t.count + 1) }
 {
-    let condition = l.condition;
-    let marks = condition_marks(condition);
+    let marks = condition_marks(l.condition);
     Figures {
         volume: t.volume + u64::from(l.size),
         count: t.count + 1,
