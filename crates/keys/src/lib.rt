@@ -6,16 +6,14 @@ ghost use Rattle.keys.specs.Keys as Keys;
 
 use kinds::{Kind, is_correction};
 use lines::Line;
-use octets::run;
 use records::{Record, Sale};
 
 // The key of a trade: the centre and the control.
 fn key_of(centre: u8, control: [u8; 10]) -> [u8; lines::KEY]
     ensures { result ≡ centre ∷ control }
 {
-    let mut key = [0u8; lines::KEY];
-    single::put_byte(&mut key, 0, centre);
-    run::paste(&mut key, 1, &control);
+    let mut key = [centre; lines::KEY];
+    key[1..].copy_from_slice(&control);
     key
 }
 
@@ -23,9 +21,7 @@ fn key_of(centre: u8, control: [u8; 10]) -> [u8; lines::KEY]
 pub fn old_key(r: Record) -> [u8; lines::KEY]
     ensures { result ≡ Keys.old_key r }
 {
-    let original = r.sale;
-    let control = original.control;
-    key_of(r.centre, control)
+    key_of(r.centre, r.sale.control)
 }
 
 // What T and C put in.
@@ -39,22 +35,16 @@ fn new_sale(kind: Kind, r: Record) -> Sale
 pub fn new_key(kind: Kind, r: Record) -> [u8; lines::KEY]
     ensures { result ≡ Keys.new_key kind r }
 {
-    let sale = new_sale(kind, r);
-    let control = sale.control;
-    key_of(r.centre, control)
+    key_of(r.centre, new_sale(kind, r).control)
 }
 
 // Whether the line is the trade that the message names.
+#[tactic(auto, using(cells::proofs::Told::pointwise_same), unfolding(crate::specs::Keys::matches))]
 pub fn is_match(r: Record, l: Line) -> bool
     ensures { result ≡ Keys.matches r l }
 {
-    let sale = r.sale;
-    let symbol = r.symbol;
-    let condition = sale.condition;
-    let symbol_there = l.symbol;
-    let condition_there = l.condition;
-    run::same_at(&symbol_there, 0, &symbol)
-        & (l.price == sale.price)
-        & (l.size == sale.size)
-        & run::same_at(&condition_there, 0, &condition)
+    l.symbol == r.symbol
+        && l.price == r.sale.price
+        && l.size == r.sale.size
+        && l.condition == r.sale.condition
 }

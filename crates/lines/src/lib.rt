@@ -3,11 +3,15 @@
 
 ghost use Rattle.std.specs.Prelude.{◌≡◌, ◌+◌, ◌*◌, ◌≤◌, length};
 ghost use Rattle.std.proofs.lemmas.List.Edits.{sets};
-ghost use Rattle.lines.specs.Cell.{line_cell};
+ghost use Rattle.lines.specs.Cell.{line_cap, line_cell};
 ghost use Rattle.lines.specs.Lines.{line_from, line_bytes, mark, no_line, line_limit, used_lines};
 ghost use Rattle.lines.specs.Lines.{line_with, line_in, with_line, with_dead};
+ghost use Rattle.lines.specs.Alone.{line_alone};
+ghost use borrow.Author.Rules.{rules};
 
 use bounds::lesser;
+use cells::{Cell, place};
+use octets::run::bytes;
 
 // The key is the centre and the control. `place` is the number of the message that first made the trade.
 #[derive(Clone, Copy)]
@@ -33,13 +37,13 @@ pub const CELL: usize = 40;
 
 pub const SYMBOL: usize = KEY;
 
-pub const PRICE: usize = 19;
+const PRICE: usize = 19;
 
-pub const SIZE: usize = 23;
+const SIZE: usize = 23;
 
-pub const CONDITION: usize = 27;
+const CONDITION: usize = 27;
 
-pub const PLACE: usize = 31;
+const PLACE: usize = 31;
 
 const TIME: usize = 35;
 
@@ -49,16 +53,17 @@ pub const LIVE: usize = 39;
 pub fn limit(room: usize) -> usize
     ensures { result ≡ line_limit room }
 {
-    lesser(CAP, room / CELL)
+    cells::limit::<Line>(room)
 }
 
-// The first used line that bears the key.
+// The first used line that bears the key. Two loops over indices, left by label: the one place where document 01 names
+// the form of a search (docs/DECISIONS.md, "The language forms that document 01 names").
 pub fn find(lines: &[u8], used: usize, key: [u8; KEY]) -> Option<usize>
     ensures { result ≡ line_with key (used_lines lines.now used) }
 {
     let n = lesser(used, limit(lines.len()));
     let mut i: usize = 0;
-    let found = 'lines: loop {
+    'lines: loop {
         if n <= i {
             break 'lines None;
         }
@@ -73,63 +78,61 @@ pub fn find(lines: &[u8], used: usize, key: [u8; KEY]) -> Option<usize>
             j += 1;
         }
         i += 1;
-    };
-    found
-}
-
-fn no_line() -> Line
-    ensures { result ≡ no_line }
-{
-    Line {
-        key: [0u8; KEY],
-        symbol: [0u8; 8],
-        price: 0,
-        size: 0,
-        condition: [0u8; 4],
-        place: 0,
-        time: 0,
-        live: false,
     }
 }
 
-// The line whose cell starts at an offset.
-fn read(lines: &[u8], at: usize) -> Line
-    requires { at + line_cell ≤ length lines.now }
-    ensures { result ≡ line_from lines.now at }
-{
-    let mut key = [0u8; KEY];
-    octets::run::fill(&mut key, lines, at);
-    let mut symbol = [0u8; 8];
-    octets::run::fill(&mut symbol, lines, at + SYMBOL);
-    let mut condition = [0u8; 4];
-    octets::run::fill(&mut condition, lines, at + CONDITION);
-    Line {
-        key: key,
-        symbol: symbol,
-        price: numbers::number::<u32>(lines, at + PRICE),
-        size: numbers::number::<u32>(lines, at + SIZE),
-        condition: condition,
-        place: numbers::number::<u32>(lines, at + PLACE),
-        time: numbers::number::<u32>(lines, at + TIME),
-        live: single::byte(lines, at + LIVE) == 1,
+impl Cell for Line {
+    const BYTES: usize = CELL;
+
+    const CAP: usize = CAP;
+
+    ghost BYTES = { line_cell };
+
+    ghost CAP = { line_cap };
+
+    ghost read = { line_from };
+
+    ghost none = { no_line };
+
+    ghost some_bytes = { Prim.search rules };
+
+    ghost alone = { line_alone };
+
+    #[tactic(auto, unfolding(crate::specs::Lines::line_from))]
+    fn read(cell: &[u8]) -> Line {
+        Line {
+            key: bytes(cell, 0),
+            symbol: bytes(cell, SYMBOL),
+            price: numbers::number(cell, PRICE),
+            size: numbers::number(cell, SIZE),
+            condition: bytes(cell, CONDITION),
+            place: numbers::number(cell, PLACE),
+            time: numbers::number(cell, TIME),
+            live: cell[LIVE] == 1,
+        }
+    }
+
+    // A dead line of zeros.
+    fn none() -> Line {
+        Line {
+            key: [0; KEY],
+            symbol: [0; 8],
+            price: 0,
+            size: 0,
+            condition: [0; 4],
+            place: 0,
+            time: 0,
+            live: false,
+        }
     }
 }
 
 // Line i of the room; where there is none, a dead line of zeros.
+#[tactic(auto, unfolding(crate::specs::Lines::line_in))]
 pub fn get(lines: &[u8], i: usize) -> Line
     ensures { result ≡ line_in lines.now i }
 {
-    if i < limit(lines.len()) {
-        read(lines, i * CELL)
-    } else {
-        no_line()
-    }
-}
-
-fn mark_of(live: bool) -> u8
-    ensures { result ≡ mark live }
-{
-    if live { 1 } else { 0 }
+    cells::get(lines, i)
 }
 
 // Stores a line in the cell that starts at an offset.
@@ -137,33 +140,32 @@ fn store(lines: &mut [u8], at: usize, l: Line)
     requires { at + line_cell ≤ length lines.old }
     ensures { lines.new ≡ sets lines.old at (line_bytes l) }
 {
-    let key = l.key;
-    let symbol = l.symbol;
-    let condition = l.condition;
-    octets::run::paste(lines, at, &key);
-    octets::run::paste(lines, at + SYMBOL, &symbol);
-    numbers::put::<u32>(lines, at + PRICE, l.price);
-    numbers::put::<u32>(lines, at + SIZE, l.size);
-    octets::run::paste(lines, at + CONDITION, &condition);
-    numbers::put::<u32>(lines, at + PLACE, l.place);
-    numbers::put::<u32>(lines, at + TIME, l.time);
-    single::put_byte(lines, at + LIVE, mark_of(l.live));
+    octets::run::paste(lines, at, &l.key);
+    octets::run::paste(lines, at + SYMBOL, &l.symbol);
+    numbers::put(lines, at + PRICE, l.price);
+    numbers::put(lines, at + SIZE, l.size);
+    octets::run::paste(lines, at + CONDITION, &l.condition);
+    numbers::put(lines, at + PLACE, l.place);
+    numbers::put(lines, at + TIME, l.time);
+    lines[at + LIVE] = u8::from(l.live);
 }
 
 // Stores line i of the room, where the room has such a line.
+#[tactic(auto, unfolding(crate::specs::Lines::with_line))]
 pub fn put(lines: &mut [u8], i: usize, l: Line)
     ensures { lines.new ≡ with_line lines.old i l }
 {
-    if i < limit(lines.len()) {
-        store(lines, i * CELL, l);
+    if let Some(at) = place::<Line>(lines.len(), i) {
+        store(lines, at, l);
     }
 }
 
 // Makes line i of the room dead, where the room has such a line.
+#[tactic(auto, unfolding(crate::specs::Lines::with_dead))]
 pub fn kill(lines: &mut [u8], i: usize)
     ensures { lines.new ≡ with_dead lines.old i }
 {
-    if i < limit(lines.len()) {
-        single::put_byte(lines, i * CELL + LIVE, 0);
+    if let Some(at) = place::<Line>(lines.len(), i) {
+        lines[at + LIVE] = 0;
     }
 }

@@ -1,7 +1,6 @@
 // A record as eighty bytes: so it is filled, judged and stored, and so a program of another language passes it.
 ghost use Rattle.std.specs.Prelude.{◌≡◌, ◌≤◌};
 ghost use Rattle.std.proofs.lemmas.List.Edits.{sets};
-ghost use Rattle.octets.specs.Run.{part};
 ghost use Rattle.records.specs.Fits.{RecordFits};
 ghost use Rattle.records.specs.Packed as W;
 
@@ -10,17 +9,8 @@ use crate::{
     PRICE, RECORD, Record, SIZE, SYMBOL, Sale, TIME,
 };
 use numbers::{number, put};
-use octets::run::{fill, paste};
+use octets::run::{bytes, paste};
 use single::{byte, put_byte};
-
-// The N bytes that stand from a place on.
-pub(crate) fn bytes<const N: usize>(m: &[u8], at: usize) -> [u8; N]
-    ensures { result ≡ part m.now at N }
-{
-    let mut run = [0u8; N];
-    fill(&mut run, m, at);
-    run
-}
 
 // Control, price, size and condition, from a place in a record on.
 fn sale_at(m: &[u8], at: usize) -> Sale

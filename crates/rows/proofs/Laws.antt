@@ -1,25 +1,24 @@
 -- A row stored field by field: each step is what one store left.
 -- Assumes nothing.
-use mathlib.Core.Path.{◌≡◌, refl, ap, sym, ◌∙◌}
-use mathlib.Core.List.{List, [], ◌∷◌, ◌++◌, map}
-use Prim.Native.Nat.{ℕ, zero, suc, ◌+◌, ◌-◌}
+use mathlib.Core.Path.{◌≡◌, ap, sym, ◌∙◌}
+use mathlib.Core.List.{List, [], ◌∷◌, ◌++◌}
+use Prim.Native.Nat.{ℕ, ◌+◌, ◌-◌, ◌*◌, ◌<◌}
 use native.Mathlib.Nat.{add-zero}
 use native.Mathlib.Omega.{arith}
 use lib.ListN.{length, set, replicate}
 use lib.Seq.{sets}
 use Rattle.numbers.specs.Number.{digits}
 use Rattle.numbers.proofs.Laws.{digits_length}
-use Rattle.octets.specs.Run.{tab}
 use Rattle.rows.specs.declared.Listing.{Listing}
 use Rattle.rows.specs.Cell.{row_cell, at_close, at_summary, at_high, at_low, at_reported, at_volume}
-use Rattle.rows.specs.Rows.{new_row, report_bytes, summary_bytes}
-use Rattle.cells.proofs.Laws.{then_stored}
+use Rattle.rows.specs.Rows.{row_limit, in_row, new_row, report_bytes, summary_bytes}
+use Rattle.cells.proofs.Laws.{inside, then_stored}
 
--- each of a run of cells read in a second way
-pub tab_map : {A B : Type 0} (g : A → B) (f : ℕ → A) (i n : ℕ) → map g (tab f i n) ≡ tab (λ (k : ℕ). g (f k)) i n
-unfolding tab
-tab_map g f i zero = refl
-tab_map g f i (suc n) = rw (tab_map g f (suc i) n)
+-- what was stored where row i starts is stored in row i
+pub in_place : (m : List ℕ) (i at from : ℕ) (xs : List ℕ) → i < row_limit (length m) → at ≡ i * row_cell
+    → sets m (at + from) xs ≡ in_row m i from xs
+unfolding in_row
+in_place m i at from xs h e = rw e (sym (inside (sets m (i * row_cell + from) xs) m i (row_limit (length m)) h))
 
 pub row_stored : (m a b out : List ℕ) (at : ℕ) (l : Listing) → length l.symbol ≡ 8
     → a ≡ sets m at l.symbol → b ≡ sets a (at + at_close) (digits 4 l.close)

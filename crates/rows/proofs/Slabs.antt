@@ -14,13 +14,12 @@ use Rattle.octets.proofs.Trips as trips
 use Rattle.rows.specs.declared.Listing.{Listing}
 use Rattle.rows.specs.declared.Row.{Row}
 use Rattle.rows.specs.Rows.{high_low}
-use Rattle.cells.specs.Search.{first}
 use Rattle.rows.specs.Cell.{row_cell, at_close, at_summary, at_high, at_low, at_reported, at_volume}
 use Rattle.rows.specs.Rows.{listing_from, summary_at, reported_at, row_from, new_row, report_bytes, summary_bytes, row_at, row_limit, used_rows}
 use Rattle.rows.specs.Rows.{no_row, row_in, in_row, with_row, with_report, with_summary}
 use Rattle.rows.specs.Changed.{listed_row, reporting, summarised, ListingFits}
 use Rattle.cells.proofs.Slabs.{Agree, Kept, number_here, number_past, part_agree, stored_found, stored_kept, stored_length, stored_past}
-use Rattle.cells.proofs.Slabs.{used, used_add, used_in_lem, used_length, used_set}
+use Rattle.cells.proofs.Slabs.{used_add, used_in_lem, used_length, used_set}
 use Rattle.rows.specs.declared.HighLow.{HighLow}
 
 -- ---- a row's cell

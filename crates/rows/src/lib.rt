@@ -2,15 +2,16 @@
 // day.
 #![tactic(auto)]
 
-ghost use Rattle.std.specs.Prelude.{◌≡◌, ◌+◌, ◌*◌, ◌≤◌, length};
-ghost use Rattle.octets.specs.Run.{part};
-ghost use Rattle.eights.specs.Low.{low};
-ghost use Rattle.rows.specs.Cell.{row_cell};
+ghost use Rattle.std.specs.Prelude.{◌≡◌};
+ghost use Rattle.rows.specs.Alone.{row_alone};
+ghost use Rattle.rows.specs.Cell.{row_cap, row_cell};
 ghost use Rattle.rows.specs.Rows.{listing_from, row_from, no_row, summary_at, reported_at};
 ghost use Rattle.rows.specs.Rows.{row_limit, used_sheet, listing_of, row_in};
 ghost use Rattle.rows.specs.Rows.{with_row, with_report, with_summary};
+ghost use borrow.Author.Rules.{rules};
 
-use bounds::lesser;
+use cells::{Cell, place};
+use octets::run::bytes;
 
 // What is listed: a symbol and its adjusted previous close. A close of 0 is unknown.
 #[derive(Clone, Copy)]
@@ -57,140 +58,133 @@ const VOLUME: usize = 22;
 pub fn limit(room: usize) -> usize
     ensures { result ≡ row_limit room }
 {
-    lesser(CAP, room / CELL)
-}
-
-// The symbol of the row whose cell starts at an offset, as the number of its eight bytes.
-fn name_at(rows: &[u8], at: usize) -> u64
-    requires { at + row_cell ≤ length rows.now }
-    ensures { result ≡ low (part rows.now at 8) }
-{
-    eights::low8(&rows[at..at + 8], 0)
+    cells::limit::<Row>(room)
 }
 
 // Which used row is the first of the symbol. The eight bytes of a symbol are compared as one number.
 pub fn find(rows: &[u8], used: usize, symbol: [u8; 8]) -> Option<usize>
     ensures { result ≡ listing_of symbol (used_sheet rows.now used) }
 {
-    let n = lesser(used, limit(rows.len()));
     let name = eights::low8(&symbol, 0);
-    let mut i: usize = 0;
-    while i < n {
-        if name_at(rows, i * CELL) == name {
-            return Some(i);
-        }
-        i += 1;
-    }
-    None
+    cells::find::<Row, _>(rows, used, |cell| eights::low8(cell, 0) == name)
 }
 
-fn summary_at(rows: &[u8], at: usize) -> Option<HighLow>
-    requires { at + row_cell ≤ length rows.now }
-    ensures { result ≡ summary_at rows.now at }
+// What a cell keeps of its symbol's J.
+#[tactic(auto, unfolding(crate::specs::Rows::summary_at))]
+fn summary_in(cell: &[u8]) -> Option<HighLow>
+    ensures { result ≡ summary_at cell.now 0 }
 {
-    let high = numbers::number::<u32>(rows, at + HIGH);
-    let low = numbers::number::<u32>(rows, at + LOW);
-    if single::byte(rows, at + SUMMARY) == 1 {
-        Some(HighLow { high, low })
+    if single::byte(cell, SUMMARY) == 1 {
+        Some(HighLow {
+            high: numbers::number(cell, HIGH),
+            low: numbers::number(cell, LOW),
+        })
     } else {
         None
     }
 }
 
-fn reported_at(rows: &[u8], at: usize) -> Option<u64>
-    requires { at + row_cell ≤ length rows.now }
-    ensures { result ≡ reported_at rows.now at }
+// The volume that a cell keeps as reported.
+#[tactic(auto, unfolding(crate::specs::Rows::reported_at))]
+fn reported_in(cell: &[u8]) -> Option<u64>
+    ensures { result ≡ reported_at cell.now 0 }
 {
-    let volume = numbers::number::<u64>(rows, at + VOLUME);
-    if single::byte(rows, at + REPORTED) == 1 {
-        Some(volume)
+    if single::byte(cell, REPORTED) == 1 {
+        Some(numbers::number(cell, VOLUME))
     } else {
         None
     }
 }
 
-// The listing of the row whose cell starts at an offset.
-fn listing_at(rows: &[u8], at: usize) -> Listing
-    requires { at + row_cell ≤ length rows.now }
-    ensures { result ≡ listing_from rows.now at }
+// The listing that a cell keeps.
+#[tactic(auto, unfolding(crate::specs::Rows::listing_from))]
+fn listing_in(cell: &[u8]) -> Listing
+    ensures { result ≡ listing_from cell.now 0 }
 {
-    let mut symbol = [0u8; 8];
-    octets::run::fill(&mut symbol, rows, at);
     Listing {
-        symbol: symbol,
-        close: numbers::number::<u32>(rows, at + CLOSE),
+        symbol: bytes(cell, 0),
+        close: numbers::number(cell, CLOSE),
     }
 }
 
-// The row whose cell starts at an offset.
-fn read(rows: &[u8], at: usize) -> Row
-    requires { at + row_cell ≤ length rows.now }
-    ensures { result ≡ row_from rows.now at }
-{
-    Row {
-        listing: listing_at(rows, at),
-        summary: summary_at(rows, at),
-        reported: reported_at(rows, at),
-    }
-}
+impl Cell for Row {
+    const BYTES: usize = CELL;
 
-fn no_row() -> Row
-    ensures { result ≡ no_row }
-{
-    Row {
-        listing: Listing {
-            symbol: [0u8; 8],
-            close: 0,
-        },
-        summary: None,
-        reported: None,
+    const CAP: usize = CAP;
+
+    ghost BYTES = { row_cell };
+
+    ghost CAP = { row_cap };
+
+    ghost read = { row_from };
+
+    ghost none = { no_row };
+
+    ghost some_bytes = { Prim.search rules };
+
+    ghost alone = { row_alone };
+
+    #[tactic(auto, unfolding(crate::specs::Rows::row_from))]
+    fn read(cell: &[u8]) -> Row {
+        Row {
+            listing: listing_in(cell),
+            summary: summary_in(cell),
+            reported: reported_in(cell),
+        }
+    }
+
+    // A row of zeros and absent figures.
+    fn none() -> Row {
+        Row {
+            listing: Listing {
+                symbol: [0; 8],
+                close: 0,
+            },
+            summary: None,
+            reported: None,
+        }
     }
 }
 
 // Row i of the room; where there is none, a row of zeros and absent figures.
+#[tactic(auto, unfolding(crate::specs::Rows::row_in))]
 pub fn get(rows: &[u8], i: usize) -> Row
     ensures { result ≡ row_in rows.now i }
 {
-    if i < limit(rows.len()) {
-        read(rows, i * CELL)
-    } else {
-        no_row()
-    }
+    cells::get(rows, i)
 }
 
 // Stores a new row, without J and with nothing reported, as row i of the room, where the room has such a row.
+#[tactic(auto, unfolding(crate::specs::Rows::in_row))]
 pub fn put(rows: &mut [u8], i: usize, l: Listing)
     ensures { rows.new ≡ with_row rows.old i l }
 {
-    if i < limit(rows.len()) {
-        let at = i * CELL;
-        let symbol = l.symbol;
-        let rest = [0u8; CELL - SUMMARY];
-        octets::run::paste(rows, at, &symbol);
-        numbers::put::<u32>(rows, at + CLOSE, l.close);
-        octets::run::paste(rows, at + SUMMARY, &rest);
+    if let Some(at) = place::<Row>(rows.len(), i) {
+        octets::run::paste(rows, at, &l.symbol);
+        numbers::put(rows, at + CLOSE, l.close);
+        octets::run::paste(rows, at + SUMMARY, &[0; CELL - SUMMARY]);
     }
 }
 
 // Sets the reported volume of row i of the room, where the room has such a row.
+#[tactic(auto, unfolding(crate::specs::Rows::in_row))]
 pub fn report(rows: &mut [u8], i: usize, volume: u64)
     ensures { rows.new ≡ with_report rows.old i volume }
 {
-    if i < limit(rows.len()) {
-        let at = i * CELL;
-        single::put_byte(rows, at + REPORTED, 1);
-        numbers::put::<u64>(rows, at + VOLUME, volume);
+    if let Some(at) = place::<Row>(rows.len(), i) {
+        rows[at + REPORTED] = 1;
+        numbers::put(rows, at + VOLUME, volume);
     }
 }
 
 // Keeps a J's high and low in row i of the room, where the room has such a row.
+#[tactic(auto, unfolding(crate::specs::Rows::in_row))]
 pub fn summarise(rows: &mut [u8], i: usize, high: u32, low: u32)
     ensures { rows.new ≡ with_summary rows.old i high low }
 {
-    if i < limit(rows.len()) {
-        let at = i * CELL;
-        single::put_byte(rows, at + SUMMARY, 1);
-        numbers::put::<u32>(rows, at + HIGH, high);
-        numbers::put::<u32>(rows, at + LOW, low);
+    if let Some(at) = place::<Row>(rows.len(), i) {
+        rows[at + SUMMARY] = 1;
+        numbers::put(rows, at + HIGH, high);
+        numbers::put(rows, at + LOW, low);
     }
 }

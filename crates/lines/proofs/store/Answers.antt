@@ -1,9 +1,9 @@
 -- `lines::store` meets its contract.
 -- Assumes nothing.
-use mathlib.Core.Path.{◌≡◌}
+use mathlib.Core.Path.{◌≡◌, refl, ◌∙◌}
 use lib.ListN.{length}
 use Rattle.lines.specs.Cell.{key_length}
-use Rattle.lines.proofs.Laws.{line_stored}
+use Rattle.lines.proofs.Laws.{line_stored, mark_from}
 use borrow.Author.Rules.{rules}
 use Rattle.lines.proofs.store.Goals as goal
 
@@ -14,5 +14,4 @@ returns c =
     let condition-long : length c.args.l.condition ≡ 4 = search rules in
     line_stored c.args.lines.now _ _ _ _ _ _ _ _ c.args.at c.args.l key-long symbol-long condition-long
     c.paste.ensures c.paste-2.ensures c.put.ensures c.put-2.ensures
-    c.paste-3.ensures c.put-3.ensures c.put-4.ensures _ c.mark_of.ensures
-    c.put_byte.ensures
+    c.paste-3.ensures c.put-3.ensures c.put-4.ensures _ (c.from.ensures ∙ mark_from c.args.l.live) refl

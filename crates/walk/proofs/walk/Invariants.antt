@@ -3,16 +3,16 @@
 use mathlib.Core.Path.{◌≡◌}
 use mathlib.Core.List.{List}
 use Prim.Native.Nat.{ℕ, ◌-◌, ◌*◌, ◌≤◌}
-use lib.ListN.{length}
 use Rattle.octets.specs.Run.{tab}
-use Rattle.lines.specs.Lines.{line_at, line_limit, used_lines}
+use Rattle.lines.specs.Lines.{line_at, used_lines}
 use Rattle.eights.proofs.Low.{Named}
 use Rattle.walk.specs.Walking.{fold, tally, figures_of}
 use Rattle.walk.proofs.walk.Given as goal
 
 abbrev pub invariant-loop-i : goal.invariant-loop-i
-invariant-loop-i l = (l.n ≤ line_limit (length l.lines)) × (l.i ≤ l.n) × (l.t.volume ≤ l.i * 4294967295) × (l.t.count ≤ l.i) ×
-    ((symbol : List ℕ) → Named l.name symbol → fold (tally symbol) l.t (tab (line_at l.lines) l.i (l.n - l.i)) ≡ figures_of symbol (used_lines l.lines l.used))
-
-abbrev pub decreases-loop-i : goal.decreases-loop-i
-decreases-loop-i l = l.n - l.i
+invariant-loop-i l = record {
+  volume : l.t.volume ≤ l.i * 4294967295;
+  count : l.t.count ≤ l.i;
+  rest : (symbol : List ℕ) → Named l.name symbol
+      → fold (tally symbol) l.t (tab (line_at l.lines) l.i (l.n - l.i)) ≡ figures_of symbol (used_lines l.lines l.used);
+}
