@@ -18,7 +18,7 @@ use rows::Listing;
 use rules::PRICE_TOP;
 use show::RowShown;
 use sound::is_sound;
-use table::{judge, judge_number};
+use table::{Rooms, judge, judge_number};
 use take::{take_lines, take_rows};
 
 // The answer to a listing or a message, and the counters that follow from it.
@@ -93,7 +93,13 @@ fn take_message(
     let q = message::read(edition, message);
     let r = q?;
     let kind = kind_of(r.letter);
-    let named = judge(c.phase, rows, c.rows, lines, c.lines, kind, q)?;
+    let rooms = Rooms {
+        rows,
+        listed: c.rows,
+        lines,
+        used: c.lines,
+    };
+    let named = judge(c.phase, rooms, kind, q)?;
     take_lines(lines, c.lines, c.wanted as u32, kind, r, named.line);
     take_rows(rows, edition, kind, r, named.row);
     Ok(c.take(kind, r.event))

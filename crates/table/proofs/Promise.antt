@@ -28,8 +28,8 @@ one_told (Ok n) (Err f') e = let a : ◌≡◌ {A = Answer} (Ok tt) (Err f') = a
 one_told (Err f) (Ok n') e = let a : ◌≡◌ {A = Answer} (Err f) (Ok tt) = ap (λ (v : Verdict). v.answer) e in cc
 one_told (Err f) (Err f') e = let a : ◌≡◌ {A = Answer} (Err f) (Err f') = ap (λ (v : Verdict). v.answer) e in cc
 
-module _ (κs : Lfts 2) (a : ArgsD judge.signature κs) where
-  pub judge_one : (r r' : Result Named Refusal) (s s' : AtExit (ended_of 2 judge-kinds.ps judge-kinds.r) κs)
+module _ (κs : Lfts (judge.signature).lifetimes) (a : ArgsD judge.signature κs) where
+  pub judge_one : (r r' : Result Named Refusal) (s s' : AtExit (ended_of (judge.signature).lifetimes judge-kinds.ps judge-kinds.r) κs)
       → judge-reads.Learnt κs a r s → judge-reads.Learnt κs a r' s' → r ≡ r'
   judge_one r r' s s' h h' = one_told r r' (h ∙ sym h')
 

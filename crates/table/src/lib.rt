@@ -50,7 +50,7 @@ pub fn judge_number(wanted: u64, number: u64) -> Result<(), Refusal>
 
 // 8, 9, 10, or the line that X and C name. Another type names none.
 fn judge_old(rooms: Rooms, kind: Kind, r: Record) -> Result<usize, Refusal>
-    ensures { Working.line_told result ≡ Working.named_by (ledger_in rooms.lines.now rooms.used) kind r }
+    ensures { Working.line_told result ≡ Working.named_by (ledger_in rooms.entry.lines.now rooms.entry.used) kind r }
 {
     if !names_old(kind) {
         return Ok(0);
@@ -70,7 +70,7 @@ fn judge_old(rooms: Rooms, kind: Kind, r: Record) -> Result<usize, Refusal>
 
 // 11 or 12 of a line that T and C make. Another type makes none.
 fn judge_new(rooms: Rooms, kind: Kind, r: Record) -> Result<(), Refusal>
-    ensures { result ≡ answer_of (Working.made_by (ledger_in rooms.lines.now rooms.used) kind r) }
+    ensures { result ≡ answer_of (Working.made_by (ledger_in rooms.entry.lines.now rooms.entry.used) kind r) }
 {
     if !makes_new(kind) {
         return Ok(());
@@ -86,7 +86,7 @@ fn judge_new(rooms: Rooms, kind: Kind, r: Record) -> Result<(), Refusal>
 
 // 8 to 12, or the line that X and C name.
 fn judge_trade(rooms: Rooms, kind: Kind, r: Record) -> Result<usize, Refusal>
-    ensures { Working.line_told result ≡ Working.trade_by (ledger_in rooms.lines.now rooms.used) kind r }
+    ensures { Working.line_told result ≡ Working.trade_by (ledger_in rooms.entry.lines.now rooms.entry.used) kind r }
 {
     let line = judge_old(rooms, kind, r)?;
     judge_new(rooms, kind, r)?;
@@ -96,7 +96,7 @@ fn judge_trade(rooms: Rooms, kind: Kind, r: Record) -> Result<usize, Refusal>
 // 7 to 12, or the row of the message's symbol and the line that it names.
 fn judge_listed(rooms: Rooms, kind: Kind, r: Record) -> Result<Named, Refusal>
     ensures { Working.told result
-        ≡ Working.listed_by (used_sheet rooms.rows.now rooms.listed) (ledger_in rooms.lines.now rooms.used) kind r }
+        ≡ Working.listed_by (used_sheet rooms.entry.rows.now rooms.entry.listed) (ledger_in rooms.entry.lines.now rooms.entry.used) kind r }
 {
     let symbol = r.symbol;
     let Some(row) = rows::find(rooms.rows, rooms.listed, symbol) else {
@@ -114,7 +114,7 @@ pub fn judge(
     q: Result<Record, Refusal>,
 ) -> Result<Named, Refusal>
     ensures { Working.told result
-        ≡ Working.judged_by (basis_in phase rooms.rows.now rooms.listed rooms.lines.now rooms.used) kind (reading_of q) }
+        ≡ Working.judged_by (basis_in phase rooms.entry.rows.now rooms.entry.listed rooms.entry.lines.now rooms.entry.used) kind (reading_of q) }
 {
     let r = q?;
     if !is_due(phase, kind, r.event) {

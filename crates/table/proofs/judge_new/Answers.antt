@@ -19,14 +19,14 @@ returns-then-is_some c = let a = c.args in
     made_there a.kind a.r a.rooms.lines.now a.rooms.used (sym c.makes_new.ensures ∙ c.if-not-makes_new.false) _
     (found_for _ _ _ _ _ c.find.ensures c.new_key.ensures refl) there
 
-pub returns-then-limit-used : goal.returns-then-limit-used
-returns-then-limit-used c = let a = c.args in
+pub returns-then-limit-rooms : goal.returns-then-limit-rooms
+returns-then-limit-rooms c = let a = c.args in
     let none : c.find.result ≡ None = search rules in
     made_none a.kind a.r a.rooms.lines.now a.rooms.used (sym c.makes_new.ensures ∙ c.if-not-makes_new.false)
-    (found_for _ _ _ _ _ c.find.ensures c.new_key.ensures none) true (le-leb _ _ (rw c.limit.ensures at c.if-limit-used.true))
+    (found_for _ _ _ _ _ c.find.ensures c.new_key.ensures none) true (le-leb _ _ (rw c.limit.ensures at c.if-limit-rooms.true))
 
 pub returns : goal.returns
 returns c = let a = c.args in
     let none : c.find.result ≡ None = search rules in
     made_none a.kind a.r a.rooms.lines.now a.rooms.used (sym c.makes_new.ensures ∙ c.if-not-makes_new.false)
-    (found_for _ _ _ _ _ c.find.ensures c.new_key.ensures none) false (lt-leb _ _ (rw c.limit.ensures at c.if-limit-used.false))
+    (found_for _ _ _ _ _ c.find.ensures c.new_key.ensures none) false (lt-leb _ _ (rw c.limit.ensures at c.if-limit-rooms.false))
