@@ -37,7 +37,7 @@ pub fn fresh(edition: Edition) -> Counters
     ensures { result ≡ Counting.fresh_counters edition }
 {
     Counters {
-        start: Start { edition: edition },
+        start: Start { edition },
         wanted: 1,
         phase: 0,
         rows: 0,

@@ -29,16 +29,13 @@ pub fn feed(c: Counters, rows: &mut [u8], lines: &mut [u8], piece: &mut [u8], n:
         ≡ fed (lent c rows.old lines.old) n piece.old }
 {
     let k = lesser(n, piece.len());
-    let p = tape::play(c, rows, lines, &piece[..k]);
-    let after = p.counters;
-    let used = p.used;
-    let stop = p.stop;
-    let held = k - used;
-    to_front(piece, used, held);
+    let played = tape::play(c, rows, lines, &piece[..k]);
+    let held = k - played.used;
+    to_front(piece, played.used, held);
     Fed {
-        counters: after,
-        used: used,
-        held: held,
-        stop: stop,
+        counters: played.counters,
+        used: played.used,
+        held,
+        stop: played.stop,
     }
 }

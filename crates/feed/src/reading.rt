@@ -36,15 +36,11 @@ pub fn go_on(r: Reading, rows: &mut [u8], lines: &mut [u8], piece: &mut [u8], n:
         ≡ gone r.at (lent r.counters rows.old lines.old) n piece.old }
     ensures types { GoneTyped lines.old piece.old }
 {
-    let before = r.counters;
-    let at = r.at;
-    let fed = crate::feed(before, rows, lines, piece, n);
-    let after = fed.counters;
-    let stop = fed.stop;
+    let fed = crate::feed(r.counters, rows, lines, piece, n);
     Reading {
-        counters: after,
+        counters: fed.counters,
         held: fed.held,
-        at: std::num::wrapping_add_u64(at, fed.used as u64),
-        stop: stop,
+        at: r.at.wrapping_add(fed.used as u64),
+        stop: fed.stop,
     }
 }

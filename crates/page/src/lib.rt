@@ -97,12 +97,10 @@ pub fn write(c: Counters, rows: &[u8], lines: &[u8], ending: Option<u64>, out: &
 {
     let end = printed(c, rows) + 3;
     let room = out.len();
-    let mut k: usize = 0;
     let mut at: usize = 0;
-    while k < end {
+    for k in 0..end {
         let n = line(c, rows, lines, ending, k, &mut out[at..]);
         at += lesser(n, room - at);
-        k += 1;
     }
     at
 }

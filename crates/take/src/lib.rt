@@ -14,15 +14,14 @@ use records::Record;
 fn made_line(n: u32, r: Record) -> Line
     ensures { result ≡ Taking.made_line n r }
 {
-    let sale = r.sale;
     let symbol = r.symbol;
-    let condition = sale.condition;
+    let condition = r.sale.condition;
     Line {
         key: old_key(r),
-        symbol: symbol,
-        price: sale.price,
-        size: sale.size,
-        condition: condition,
+        symbol,
+        price: r.sale.price,
+        size: r.sale.size,
+        condition,
         place: n,
         time: r.time,
         live: true,
@@ -33,15 +32,14 @@ fn made_line(n: u32, r: Record) -> Line
 fn corrected_line(old: Line, r: Record) -> Line
     ensures { result ≡ Taking.corrected_line old r }
 {
-    let sale = r.new;
     let symbol = r.symbol;
-    let condition = sale.condition;
+    let condition = r.new.condition;
     Line {
         key: new_key(Kind::Correction, r),
-        symbol: symbol,
-        price: sale.price,
-        size: sale.size,
-        condition: condition,
+        symbol,
+        price: r.new.price,
+        size: r.new.size,
+        condition,
         place: old.place,
         time: old.time,
         live: true,

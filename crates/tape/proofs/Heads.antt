@@ -1,5 +1,6 @@
 -- What stands at a place of a tape, test by test, and what it means that a whole entry stands there.
 -- Assumes nothing.
+use Rattle.std.specs.Prelude.{Err, Ok}
 use mathlib.Core.Path.{◌≡◌, refl, ap, sym, ◌∙◌}
 use mathlib.Core.Logic.{inl, inr}
 use mathlib.Core.Bool.{Bool, true, false, cond}
@@ -16,31 +17,30 @@ use Rattle.kinds.specs.Kinds.{kind_of}
 use Rattle.packing.specs.Packing.{length_of}
 use Rattle.packing.proofs.Lengths.{Some, length_some}
 use Rattle.tape.specs.Entries.{listing_letter, number_bytes, message_length, body_length, head_of}
-use Rattle.tape.specs.declared.entries.Head.TheVariants.{Whole, Stops}
 use Rattle.tape.specs.declared.Stop.{Stop}
 use Rattle.tape.specs.declared.Stop.TheVariants.{Ended, NoKind, CutShort}
 
 -- ---- the turns of `head_at`
 
-pub head_ended : (m : List ℕ) (at : ℕ) → length m ≤ at → Stops Ended ≡ head_of (drop at m)
+pub head_ended : (m : List ℕ) (at : ℕ) → length m ≤ at → Err Ended ≡ head_of (drop at m)
 unfolding head_of
 head_ended m at h = rw (drop_of_length-le m h)
 
 module _ (m : List ℕ) (at n : ℕ) (h : at < length m) (e : n ≡ body_length (get_or m at 0)) where
   -- the head by its tests
-  head_there : head_of (drop at m) ≡ cond (eqb n 0) (Stops NoKind) (cond (leb n (length (drop (suc at) m))) (Whole (suc n)) (Stops CutShort))
+  head_there : head_of (drop at m) ≡ cond (eqb n 0) (Err NoKind) (cond (leb n (length (drop (suc at) m))) (Ok (suc n)) (Err CutShort))
   unfolding head_of
   head_there = rw (drop-cons m at 0 h, e)
 
-  pub head_no_kind : n ≡ 0 → Stops NoKind ≡ head_of (drop at m)
+  pub head_no_kind : n ≡ 0 → Err NoKind ≡ head_of (drop at m)
   head_no_kind z = rw (head_there, eq-eqb n 0 z)
 
-  pub head_whole : (n ≡ 0 → ⊥) → n < length m - at → Whole (n + 1) ≡ head_of (drop at m)
+  pub head_whole : (n ≡ 0 → ⊥) → n < length m - at → Ok (n + 1) ≡ head_of (drop at m)
   head_whole z l =
       let g : n ≤ length (drop (suc at) m) = omega (arith, length-drop (suc at) m) in
       rw (head_there, ne_eqb n 0 z, le-leb n (length (drop (suc at) m)) g, add-one)
 
-  pub head_short : (n ≡ 0 → ⊥) → length m - at ≤ n → Stops CutShort ≡ head_of (drop at m)
+  pub head_short : (n ≡ 0 → ⊥) → length m - at ≤ n → Err CutShort ≡ head_of (drop at m)
   head_short z l =
       let g : length (drop (suc at) m) < n = omega (arith, length-drop (suc at) m) in
       rw (head_there, ne_eqb n 0 z, lt-leb n (length (drop (suc at) m)) g)
@@ -91,10 +91,10 @@ pub record EntryStands (b : List ℕ) (n : ℕ) : Type 0 where
   pub fits : body_length kind ≤ length after
   pub size : n ≡ suc (body_length kind)
 
-pub never : {w : Stop} {n : ℕ} → Stops w ≡ Whole n → ⊥
+pub never : {w : Stop} {n : ℕ} → Err w ≡ Ok n → ⊥
 never e = let z : ◌≡◌ {A = ℕ} 0 1 = cc in omega arith
 
-pub entry_stands : (b : List ℕ) (n : ℕ) → head_of b ≡ Whole n → EntryStands b n
+pub entry_stands : (b : List ℕ) (n : ℕ) → head_of b ≡ Ok n → EntryStands b n
 unfolding head_of
 entry_stands [] n e = absurd (never e)
 entry_stands (k ∷ s) n e = go (eqb (body_length k) 0) refl (leb (body_length k) (length s)) refl
@@ -103,7 +103,7 @@ entry_stands (k ∷ s) n e = go (eqb (body_length k) 0) refl (leb (body_length k
     go true t u v = absurd (never (rw t at e))
     go false t false v = absurd (never (rw (t, v) at e))
     go false t true v =
-        let f : Whole (suc (body_length k)) ≡ Whole n = rw (t, v) at e in
+        let f : Ok (suc (body_length k)) ≡ Ok n = rw (t, v) at e in
         record {
           kind = k;
           after = s;
@@ -114,12 +114,12 @@ entry_stands (k ∷ s) n e = go (eqb (body_length k) 0) refl (leb (body_length k
         }
 
 -- and the other way round
-pub stands : (k : ℕ) (s : List ℕ) → (body_length k ≡ 0 → ⊥) → body_length k ≤ length s → head_of (k ∷ s) ≡ Whole (suc (body_length k))
+pub stands : (k : ℕ) (s : List ℕ) → (body_length k ≡ 0 → ⊥) → body_length k ≤ length s → head_of (k ∷ s) ≡ Ok (suc (body_length k))
 unfolding head_of
 stands k s z l = rw (ne_eqb (body_length k) 0 z, le-leb (body_length k) (length s) l)
 
 -- an entry that stands there lies within, and has 11 to 72 bytes
-pub standing_within : (b : List ℕ) (n : ℕ) → head_of b ≡ Whole n → (11 ≤ n) × (n ≤ 72) × (n ≤ length b)
+pub standing_within : (b : List ℕ) (n : ℕ) → head_of b ≡ Ok n → (11 ≤ n) × (n ≤ 72) × (n ≤ length b)
 standing_within b n e =
     let w = entry_stands b n e in
     let l : length b ≡ suc (length w.after) = ap length w.bytes in

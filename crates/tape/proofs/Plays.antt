@@ -1,5 +1,6 @@
 -- A play goes on with what stands at the head, whatever number of entries it is allowed, if that is enough; the turns of the code.
 -- Assumes nothing.
+use Rattle.std.specs.Prelude.{Err, Ok, Result, ℕ}
 use mathlib.Core.Path.{◌≡◌, refl, ap, sym, ◌∙◌}
 use mathlib.Core.List.{List, [], ◌∷◌}
 use Prim.Native.Nat.{ℕ, zero, suc, ◌+◌, ◌-◌, ◌≤◌}
@@ -17,8 +18,6 @@ use Rattle.tape.specs.Entries.{listing_letter, Lists, listing_in, arrival_in, de
 use Rattle.tape.specs.Playing.{acted, Play, stopped, further, play_some, played}
 use Rattle.tape.specs.declared.Stop.{Stop}
 use Rattle.tape.specs.declared.Stop.TheVariants.{Ended}
-use Rattle.tape.specs.declared.entries.Head.{Head}
-use Rattle.tape.specs.declared.entries.Head.TheVariants.{Whole, Stops}
 use Rattle.tape.proofs.Heads.{never, standing_within}
 
 -- ---- one entry, from what the book promises
@@ -61,7 +60,7 @@ module _ (s : State) (b : List ℕ) where
 
 -- ---- how many entries are allowed does not matter
 
-pub shorter : (b : List ℕ) (n k : ℕ) → head_of b ≡ Whole n → length b ≤ suc k → length (drop n b) ≤ k
+pub shorter : (b : List ℕ) (n k : ℕ) → head_of b ≡ Ok n → length b ≤ suc k → length (drop n b) ≤ k
 shorter b n k e l = omega (arith, length-drop n b, standing_within b n e)
 
 pub enough : (k j : ℕ) (s : State) (b : List ℕ) → length b ≤ k → length b ≤ j → play_some k s b ≡ play_some j s b
@@ -74,22 +73,22 @@ enough (suc k) zero s (x ∷ b) l m = absurd (omega arith)
 enough (suc k) (suc j) s b l m =
     go (head_of b) refl (λ n e. enough k j (acted s (entry_of (take n b))) (drop n b) (shorter b n k e l) (shorter b n j e m))
   where
-    go : (h : Head) → head_of b ≡ h
+    go : (h : Result ℕ Stop) → head_of b ≡ h
         →
-        ((n : ℕ) → head_of b ≡ Whole n → play_some k (acted s (entry_of (take n b))) (drop n b) ≡ play_some j
+        ((n : ℕ) → head_of b ≡ Ok n → play_some k (acted s (entry_of (take n b))) (drop n b) ≡ play_some j
         (acted s (entry_of (take n b))) (drop n b))
         → play_some (suc k) s b ≡ play_some (suc j) s b
-    go (Stops w) e r = rw e
-    go (Whole n) e r = rw e (ap (further n) (r n e))
+    go (Err w) e r = rw e
+    go (Ok n) e r = rw e (ap (further n) (r n e))
 
 -- ---- a play, by what stands at the head
 
-pub play_stops : (s : State) (b : List ℕ) (w : Stop) → head_of b ≡ Stops w → played s b ≡ stopped s w
+pub play_stops : (s : State) (b : List ℕ) (w : Stop) → head_of b ≡ Err w → played s b ≡ stopped s w
 unfolding played play_some head_of
 play_stops s [] w e = let f : Ended ≡ w = cc in ap (stopped s) f
 play_stops s (x ∷ b) w e = rw e
 
-pub play_whole : (s : State) (b : List ℕ) (n : ℕ) → head_of b ≡ Whole n
+pub play_whole : (s : State) (b : List ℕ) (n : ℕ) → head_of b ≡ Ok n
     → played s b ≡ further n (played (acted s (entry_of (take n b))) (drop n b))
 unfolding played play_some head_of
 play_whole s [] n e = absurd (never e)
@@ -106,7 +105,7 @@ further_none p = rw zero-add
 -- ---- the turns of `play`
 
 -- an entry that stands at a place lies within
-pub standing_at : (m : List ℕ) (at n : ℕ) → at ≤ length m → head_of (drop at m) ≡ Whole n → (11 ≤ n) × (at + n ≤ length m)
+pub standing_at : (m : List ℕ) (at n : ℕ) → at ≤ length m → head_of (drop at m) ≡ Ok n → (11 ≤ n) × (at + n ≤ length m)
 standing_at m at n l e =
     let w = standing_within (drop at m) n e in
     let d = length-drop at m in
@@ -119,10 +118,10 @@ standing_length m at n l =
     rw e (length-take-le n (drop at m) (omega arith))
 
 module _ (s now : State) (m : List ℕ) (at : ℕ) (so : further at (played now (drop at m)) ≡ played s m) where
-  pub play_returns : (w : Stop) → head_of (drop at m) ≡ Stops w → record { state = now; used = at; stop = w } ≡ played s m
+  pub play_returns : (w : Stop) → head_of (drop at m) ≡ Err w → record { state = now; used = at; stop = w } ≡ played s m
   play_returns w e = sym (ap (further at) (play_stops now (drop at m) w e) ∙ rw add-zero) ∙ so
 
-  pub play_turn : (n k : ℕ) → head_of (drop at m) ≡ Whole n → k ≡ n → (t : State) → t ≡ acted now (entry_of (take k (drop at m)))
+  pub play_turn : (n k : ℕ) → head_of (drop at m) ≡ Ok n → k ≡ n → (t : State) → t ≡ acted now (entry_of (take k (drop at m)))
       → further (at + n) (played t (drop (at + n) m)) ≡ played s m
   play_turn n k e f t g =
       let x : t ≡ acted now (entry_of (take n (drop at m))) = g ∙ ap (λ (i : ℕ). acted now (entry_of (take i (drop at m)))) f in

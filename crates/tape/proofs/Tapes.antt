@@ -1,5 +1,6 @@
 -- Each run of bytes is entries and a rest in exactly one way, and the play of it is what the entries do, in order.
 -- Assumes nothing.
+use Rattle.std.specs.Prelude.{Err, Ok, Result, ℕ}
 use mathlib.Core.Path.{◌≡◌, refl, ap, sym, subst, ◌∙◌}
 use mathlib.Core.Bool.{Bool, true, false}
 use mathlib.Core.List.{List, [], ◌∷◌, ◌++◌, append-nil, append_assoc}
@@ -22,8 +23,6 @@ use Rattle.book.specs.State.{State, arrives}
 use Rattle.tape.specs.Playing.{acted, acted_all, further, played}
 use Rattle.tape.specs.declared.Stop.{Stop}
 use Rattle.tape.specs.declared.Stop.TheVariants.{Ended, NoKind, CutShort}
-use Rattle.tape.specs.declared.entries.Head.{Head}
-use Rattle.tape.specs.declared.entries.Head.TheVariants.{Whole, Stops}
 use Rattle.tape.proofs.Heads.{never, entry_stands, stands}
 use Rattle.tape.proofs.Plays.{shorter, play_stops, play_whole}
 
@@ -57,7 +56,7 @@ module _ (symbol : List ℕ) (close : ℕ) (long : length symbol ≡ 8) (small :
   listing_length : length listing_bytes ≡ 13
   listing_length = omega (arith, length-append symbol (digits 4 close), digits_length 4 close)
 
-  listing_head : (more : List ℕ) → head_of (listing_bytes ++ more) ≡ Whole 13
+  listing_head : (more : List ℕ) → head_of (listing_bytes ++ more) ≡ Ok 13
   unfolding body_length
   listing_head more =
       let l : 12 ≤ length ((symbol ++ digits 4 close) ++ more)
@@ -78,12 +77,12 @@ module _ (k number : ℕ) (m : List ℕ) (long : length m ≡ message_length k) 
   message_long : length message_bytes ≡ suc (body_length k)
   message_long = omega (arith, length-append (digits 4 number) m, digits_length 4 number, message_body k some)
 
-  message_head : (more : List ℕ) → head_of (message_bytes ++ more) ≡ Whole (length message_bytes)
+  message_head : (more : List ℕ) → head_of (message_bytes ++ more) ≡ Ok (length message_bytes)
   message_head more =
       let b = message_body k some in
       let l : body_length k ≤ length ((digits 4 number ++ m) ++ more)
       = omega (arith, length-append (digits 4 number ++ m) more, message_long) in
-      stands k ((digits 4 number ++ m) ++ more) (λ z. omega arith) l ∙ ap Whole (sym message_long)
+      stands k ((digits 4 number ++ m) ++ more) (λ z. omega arith) l ∙ ap Ok (sym message_long)
 
 -- the bytes of an entry say which entry it is
 pub entry_again : (e : Entry) → EntryFits e → entry_of (entry_bytes e) ≡ e
@@ -92,10 +91,10 @@ entry_again (Lists l) z = listing_there l.symbol l.close z.0 z.1
 entry_again (Delivers k a) z = message_there k a.number a.message z.0 z.1 z.2
 
 -- and it stands at the head of its bytes, whatever follows
-pub entry_head : (e : Entry) (more : List ℕ) → EntryFits e → head_of (entry_bytes e ++ more) ≡ Whole (length (entry_bytes e))
+pub entry_head : (e : Entry) (more : List ℕ) → EntryFits e → head_of (entry_bytes e ++ more) ≡ Ok (length (entry_bytes e))
 unfolding entry_bytes
 entry_head (Lists l) more z =
-    listing_head l.symbol l.close z.0 z.1 more ∙ ap Whole (sym (listing_length l.symbol l.close z.0 z.1))
+    listing_head l.symbol l.close z.0 z.1 more ∙ ap Ok (sym (listing_length l.symbol l.close z.0 z.1))
 entry_head (Delivers k a) more z = message_head k a.number a.message z.0 z.1 z.2 more
 
 -- ---- and its bytes, from an entry that stands
@@ -160,7 +159,7 @@ module _ (k : ℕ) (body : List ℕ) (known : body_length k ≡ 0 → ⊥) (long
       go false t = rw t (message_back (eqb-false k 76 t))
 
 -- an entry that stands at the head of bytes: those bytes are its, and it has its size
-pub entry_found : (b : List ℕ) (n : ℕ) → Bytes b → head_of b ≡ Whole n
+pub entry_found : (b : List ℕ) (n : ℕ) → Bytes b → head_of b ≡ Ok n
     → (entry_bytes (entry_of (take n b)) ≡ take n b) × EntryFits (entry_of (take n b))
 entry_found b n h e =
     let w = entry_stands b n e in
@@ -173,7 +172,7 @@ entry_found b n h e =
 -- ---- entries and a rest
 
 -- where a play would stop no entry stands
-stops_ends : (b : List ℕ) (w : Stop) → head_of b ≡ Stops w → (e : Entry) (more : List ℕ) → EntryFits e → b ≡ entry_bytes e ++ more → ⊥
+stops_ends : (b : List ℕ) (w : Stop) → head_of b ≡ Err w → (e : Entry) (more : List ℕ) → EntryFits e → b ≡ entry_bytes e ++ more → ⊥
 stops_ends b w h e more z f = never (sym h ∙ ap head_of f ∙ entry_head e more z)
 
 -- bytes with an entry before them
@@ -192,10 +191,10 @@ pub record Cut (b : List ℕ) : Type 0 where
   pub rest : List ℕ
   pub whole : Tape b entries rest
 
-cut_here : (b : List ℕ) (w : Stop) → head_of b ≡ Stops w → Cut b
+cut_here : (b : List ℕ) (w : Stop) → head_of b ≡ Err w → Cut b
 cut_here b w e = record { entries = []; rest = b; whole = record { bytes = refl; each = tt; ends = stops_ends b w e } }
 
-cut_later : (b : List ℕ) (n : ℕ) → Bytes b → head_of b ≡ Whole n → Cut (drop n b) → Cut b
+cut_later : (b : List ℕ) (n : ℕ) → Bytes b → head_of b ≡ Ok n → Cut (drop n b) → Cut b
 cut_later b n h e r =
     let f = entry_found b n h e in
     let g : entry_bytes (entry_of (take n b)) ++ drop n b ≡ b = ap (λ (x : List ℕ). x ++ drop n b) f.0 ∙ take-append-drop n b in
@@ -211,9 +210,9 @@ cut_for zero [] l h = cut_here [] Ended refl
 cut_for zero (x ∷ b) l h = absurd (omega arith)
 cut_for (suc k) b l h = go (head_of b) refl (λ n e. cut_for k (drop n b) (shorter b n k e l) (bytes_drop b n h))
   where
-    go : (x : Head) → head_of b ≡ x → ((n : ℕ) → head_of b ≡ Whole n → Cut (drop n b)) → Cut b
-    go (Stops w) e r = cut_here b w e
-    go (Whole n) e r = cut_later b n h e (r n e)
+    go : (x : Result ℕ Stop) → head_of b ≡ x → ((n : ℕ) → head_of b ≡ Ok n → Cut (drop n b)) → Cut b
+    go (Err w) e r = cut_here b w e
+    go (Ok n) e r = cut_later b n h e (r n e)
 
 -- there is a way
 pub split : (b : List ℕ) → Bytes b → Cut b
@@ -223,7 +222,7 @@ split b h = cut_for (length b) b (omega arith) h
 same_entry : (e e' : Entry) (more more' : List ℕ) → EntryFits e → EntryFits e' → entry_bytes e ++ more ≡ entry_bytes e' ++ more'
     → (e ≡ e') × (more ≡ more')
 same_entry e e' more more' z z' f =
-    let h : Whole (length (entry_bytes e)) ≡ Whole (length (entry_bytes e'))
+    let h : Ok (length (entry_bytes e)) ≡ Ok (length (entry_bytes e'))
     = sym (entry_head e more z) ∙ ap head_of f ∙ entry_head e' more' z' in
     let n : length (entry_bytes e) ≡ length (entry_bytes e') = cc in
     let t : take (length (entry_bytes e)) (entry_bytes e ++ more) ≡ take (length (entry_bytes e')) (entry_bytes e' ++ more')
@@ -269,23 +268,23 @@ split_is b h = record { cut = split b h; only = λ es rest t. split_one t (split
 -- ---- the play of a tape
 
 -- where no entry stands, what stands says why
-end_is : (b : List ℕ) (w : Stop) → head_of b ≡ Stops w → w ≡ end_of b
+end_is : (b : List ℕ) (w : Stop) → head_of b ≡ Err w → w ≡ end_of b
 unfolding head_of
 end_is [] w e = cc
 end_is (k ∷ s) w e = go (eqb (body_length k) 0) refl (leb (body_length k) (length s)) refl
   where
     go : (t : Bool) → eqb (body_length k) 0 ≡ t → (u : Bool) → leb (body_length k) (length s) ≡ u → w ≡ end_of (k ∷ s)
-    go true t u v = let f : Stops NoKind ≡ Stops w = rw t at e in let g : w ≡ NoKind = cc in rw t g
+    go true t u v = let f : Err NoKind ≡ Err w = rw t at e in let g : w ≡ NoKind = cc in rw t g
     go false t true v = absurd (never (sym (rw (t, v) at e)))
-    go false t false v = let f : Stops CutShort ≡ Stops w = rw (t, v) at e in let g : w ≡ CutShort = cc in rw t g
+    go false t false v = let f : Err CutShort ≡ Err w = rw (t, v) at e in let g : w ≡ CutShort = cc in rw t g
 
 ends_stops : (b : List ℕ) → Bytes b
-    → ((e : Entry) (more : List ℕ) → EntryFits e → b ≡ entry_bytes e ++ more → ⊥) → head_of b ≡ Stops (end_of b)
+    → ((e : Entry) (more : List ℕ) → EntryFits e → b ≡ entry_bytes e ++ more → ⊥) → head_of b ≡ Err (end_of b)
 ends_stops b h n = go (head_of b) refl
   where
-    go : (x : Head) → head_of b ≡ x → head_of b ≡ Stops (end_of b)
-    go (Stops w) e = e ∙ ap Stops (end_is b w e)
-    go (Whole k) e =
+    go : (x : Result ℕ Stop) → head_of b ≡ x → head_of b ≡ Err (end_of b)
+    go (Err w) e = e ∙ ap Err (end_is b w e)
+    go (Ok k) e =
         let f = entry_found b k h e in
         absurd (n (entry_of (take k b)) (drop k b) f.1 (sym (ap (λ (x : List ℕ). x ++ drop k b) f.0 ∙ take-append-drop k b)))
 
@@ -296,7 +295,7 @@ play_entry_lem s e more z =
     play_whole s (entry_bytes e ++ more) (length (entry_bytes e)) (entry_head e more z)
     ∙ rw (take-append_seam (entry_bytes e) more, drop-append_seam (entry_bytes e) more, entry_again e z)
 
-play_entries : (s : State) (es : List Entry) (rest : List ℕ) → EntriesFit es → head_of rest ≡ Stops (end_of rest)
+play_entries : (s : State) (es : List Entry) (rest : List ℕ) → EntriesFit es → head_of rest ≡ Err (end_of rest)
     → played s (tape_of es ++ rest) ≡ record { state = acted_all s es; used = length (tape_of es); stop = end_of rest }
 unfolding acted_all
 play_entries s [] rest z h = play_stops s rest (end_of rest) h
@@ -314,7 +313,7 @@ play_split s b es rest h t =
     ap (played s) t.bytes ∙ play_entries s es rest t.each (ends_stops rest (bytes_behind (tape_of es) rest g) t.ends)
 
 -- entries, and behind them something at whose head no entry stands
-pub cut_tape : (es : List Entry) (rest : List ℕ) (w : Stop) → EntriesFit es → head_of rest ≡ Stops w → Tape (tape_of es ++ rest) es rest
+pub cut_tape : (es : List Entry) (rest : List ℕ) (w : Stop) → EntriesFit es → head_of rest ≡ Err w → Tape (tape_of es ++ rest) es rest
 cut_tape es rest w f h =
     record { bytes = refl; each = f; ends = λ e more z q. never (sym h ∙ ap head_of q ∙ entry_head e more z) }
 

@@ -1,6 +1,6 @@
 -- The entries of a tape: what an entry is, and what stands at the head of a run of bytes.
 -- Assumes nothing.
-use Rattle.std.specs.Prelude.{ℕ, suc, ◌+◌, ◌<◌, ◌^◌, ◌≡◌, List, [], ◌∷◌, ◌++◌, map, Bool, false, cond, ◌||◌, eqb, leb, length, drop, get_or}
+use Rattle.std.specs.Prelude.{ℕ, suc, ◌+◌, ◌<◌, ◌^◌, ◌≡◌, List, [], ◌∷◌, ◌++◌, map, Bool, false, cond, ◌||◌, eqb, leb, length, drop, get_or, Err, Ok, Result}
 use Rattle.octets.specs.Run.{part}
 use Rattle.numbers.specs.Number.{be, digits}
 use Rattle.kinds.specs.declared.Kind.{Kind}
@@ -10,8 +10,6 @@ use Rattle.rows.specs.declared.Listing.{Listing}
 use Rattle.book.specs.State.{Arrival, arrives}
 use Rattle.tape.specs.declared.Stop.{Stop}
 use Rattle.tape.specs.declared.Stop.TheVariants.{Ended, NoKind, CutShort}
-use Rattle.tape.specs.declared.entries.Head.{Head}
-use Rattle.tape.specs.declared.entries.Head.TheVariants.{Whole, Stops}
 
 -- ---- the numbers of an entry
 
@@ -83,10 +81,10 @@ EntryFits (Delivers kind a) = (length a.message ≡ message_length kind) × (0 <
 
 -- ---- what stands at the head
 
-unfoldable pub head_of : List ℕ → Head
-head_of [] = Stops Ended
+unfoldable pub head_of : List ℕ → Result ℕ Stop
+head_of [] = Err Ended
 head_of (k ∷ s) =
-    cond (eqb (body_length k) 0) (Stops NoKind) (cond (leb (body_length k) (length s)) (Whole (suc (body_length k))) (Stops CutShort))
+    cond (eqb (body_length k) 0) (Err NoKind) (cond (leb (body_length k) (length s)) (Ok (suc (body_length k))) (Err CutShort))
 
 -- the entry that all of these bytes are
 abbrev pub listing_in : List ℕ → Listing

@@ -1,14 +1,12 @@
 -- A tape played on a book: each entry does what the book's promises say, one after the other.
 -- Assumes nothing.
-use Rattle.std.specs.Prelude.{ℕ, zero, suc, ◌+◌, List, [], ◌∷◌, ◌++◌, length, take, drop}
+use Rattle.std.specs.Prelude.{ℕ, zero, suc, ◌+◌, List, [], ◌∷◌, ◌++◌, length, take, drop, Err, Ok, Result}
 use Rattle.book.specs.State.{State}
 use Rattle.book.specs.Calls.{listed, delivered}
 use Rattle.tape.specs.Entries.{Entry, Lists, Delivers, head_of, entry_of}
 use Rattle.tape.specs.declared.Stop.{Stop}
 use Rattle.tape.specs.declared.Stop.TheVariants.{Ended}
 use Rattle.tape.specs.declared.Played.{Played}
-use Rattle.tape.specs.declared.entries.Head.{Head}
-use Rattle.tape.specs.declared.entries.Head.TheVariants.{Whole, Stops}
 
 -- ---- one entry
 
@@ -41,9 +39,9 @@ stopped s w = record { state = s; used = 0; stop = w }
 abbrev pub further : ℕ → Play → Play
 further n p = record { state = p.state; used = n + p.used; stop = p.stop }
 
-abbrev pub on_head {ℓ} : {A : Type ℓ} → Head → (Stop → A) → (ℕ → A) → A
-on_head (Stops w) f g = f w
-on_head (Whole n) f g = g n
+abbrev pub on_head {ℓ} : {A : Type ℓ} → Result ℕ Stop → (Stop → A) → (ℕ → A) → A
+on_head (Err w) f g = f w
+on_head (Ok n) f g = g n
 
 -- at most that many entries; an entry has a byte or more, so that a list has no more of them than bytes
 unfoldable pub play_some : ℕ → State → List ℕ → Play

@@ -9,17 +9,10 @@ use crate::Stop;
 use counters::Counters;
 use kinds::kind_of;
 use numbers::number;
-use octets::run::fill;
+use octets::run;
 use packing::length_of;
 use rows::Listing;
 use single::byte;
-
-// What stands at the head of a run of bytes: a whole entry of that many bytes, or none, and why.
-#[derive(Clone, Copy)]
-pub enum Head {
-    Whole(usize),
-    Stops(Stop),
-}
 
 // How many bytes the kind, the symbol and the close of a listing, and the number of a message have.
 const KIND: usize = 1;
@@ -52,21 +45,21 @@ fn body_length(letter: u8) -> usize
     NUMBER + n
 }
 
-// What stands at a place.
-pub(crate) fn head_at(part: &[u8], at: usize) -> Head
+// How many bytes the whole entry has that stands at a place, or why none does.
+pub(crate) fn head_at(part: &[u8], at: usize) -> Result<usize, Stop>
     ensures { result ≡ head_of (drop at part.now) }
 {
     if part.len() <= at {
-        return Head::Stops(Stop::Ended);
+        return Err(Stop::Ended);
     }
     let n = body_length(part[at]);
     if n == 0 {
-        return Head::Stops(Stop::NoKind);
+        return Err(Stop::NoKind);
     }
     if n < part.len() - at {
-        Head::Whole(n + 1)
+        Ok(n + 1)
     } else {
-        Head::Stops(Stop::CutShort)
+        Err(Stop::CutShort)
     }
 }
 
@@ -75,15 +68,11 @@ fn list_entry(c: Counters, rows: &mut [u8], lines: &[u8], bytes: &[u8]) -> Count
     ensures { lent result rows.new lines.now
         ≡ acted (lent c rows.old lines.now) (Lists (listing_in bytes.now)) }
 {
-    let mut symbol = [0u8; SYMBOL];
-    fill(&mut symbol, bytes, KIND);
-    let close = number::<u32>(bytes, CLOSE_AT);
-    let l = Listing {
-        symbol: symbol,
-        close: close,
+    let listing = Listing {
+        symbol: run::bytes(bytes, KIND),
+        close: number(bytes, CLOSE_AT),
     };
-    let said = book::list(c, rows, lines, l);
-    said.counters
+    book::list(c, rows, lines, listing).counters
 }
 
 // Delivers the message of an entry as it lies, under its number.
@@ -92,9 +81,8 @@ fn deliver_entry(c: Counters, rows: &mut [u8], lines: &mut [u8], bytes: &[u8]) -
     ensures { lent result rows.new lines.new
         ≡ acted (lent c rows.old lines.old) (delivery bytes.now) }
 {
-    let number = number::<u32>(bytes, KIND) as u64;
-    let said = book::deliver(c, rows, lines, number, &bytes[MESSAGE_AT..]);
-    said.counters
+    let number = u64::from(number::<u32>(bytes, KIND));
+    book::deliver(c, rows, lines, number, &bytes[MESSAGE_AT..]).counters
 }
 
 // Plays one entry; these are all of its bytes.

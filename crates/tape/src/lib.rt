@@ -9,7 +9,7 @@ ghost use Rattle.book.specs.State.{lent};
 ghost use Rattle.tape.specs.Playing.{came, played};
 
 use counters::Counters;
-use entries::{Head, head_at, play_entry};
+use entries::{head_at, play_entry};
 
 // Why the play of a part stopped.
 #[derive(Clone, Copy)]
@@ -38,16 +38,15 @@ pub fn play(c: Counters, rows: &mut [u8], lines: &mut [u8], part: &[u8]) -> Play
     let mut counters = c;
     let mut at: usize = 0;
     loop {
-        let head = head_at(part, at);
-        match head {
-            Head::Stops(stop) => {
+        match head_at(part, at) {
+            Err(stop) => {
                 return Played {
                     counters,
                     used: at,
                     stop,
                 };
             }
-            Head::Whole(n) => {
+            Ok(n) => {
                 let end = at + n;
                 counters = play_entry(counters, rows, lines, &part[at..end]);
                 at = end;

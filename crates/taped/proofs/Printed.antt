@@ -1,6 +1,7 @@
 -- What the program prints, as real calls: the tape is read through piece by piece, and the whole wall is written into a space that is
 -- long enough for it. However the tape is cut, the text is `wall_text` of its bytes.
 -- Assumes nothing.
+use Rattle.std.specs.Prelude.{Err, Ok, Result, ℕ}
 use Prim.Native.Nat.{ℕ, zero, suc, ◌^◌, ◌≤◌, ◌<◌}
 use mathlib.Core.Path.{◌≡◌, refl, ap, ap₂, sym, subst, ◌∙◌}
 use mathlib.Core.List.{List, [], ◌∷◌, ◌++◌}
@@ -27,8 +28,6 @@ use Rattle.page.proofs.Promise.{WriteLfts, WriteArgs, WriteExit, write_from, wri
 use Rattle.page.proofs.write.Reads as write-reads
 use Rattle.octets.specs.Run.{Bytes}
 use Rattle.tape.specs.Entries.{Entry, head_of, entry_of, tape_of, Tape, end_of}
-use Rattle.tape.specs.declared.entries.Head.{Head}
-use Rattle.tape.specs.declared.entries.Head.TheVariants.{Whole, Stops}
 use Rattle.tape.proofs.Plays.{play_stops, play_whole, shorter}
 use Rattle.clerk.specs.States.{arrivals_in, listings_in}
 use Rattle.clerk.specs.Clerk.{clerk_sheet}
@@ -37,6 +36,7 @@ use Rattle.taped.specs.ClerksWall.{clerk_wall, asked_in}
 use Rattle.taped.specs.Said.{wall_said}
 use Rattle.taped.proofs.TapeDay.{acted_long, tape_day}
 use Rattle.taped.proofs.WallSaid.{wall_said_lem}
+use Rattle.tape.specs.declared.Stop.{Stop}
 
 -- the text that a call of `write` tells stands at the front of a space that is long enough
 stands_whole : (text space left : List ℕ) (r : ℕ) → left ≡ sets space 0 text → r ≡ length text → length text ≤ length space
@@ -51,12 +51,12 @@ played_for zero s [] l = ap (λ (p : Play). length p.state.rows) (play_stops s [
 played_for zero s (x ∷ b) l = absurd (omega arith)
 played_for (suc k) s b l = go (head_of b) refl (λ n e. played_for k (acted s (entry_of (take n b))) (drop n b) (shorter b n k e l))
   where
-    go : (h : Head) → head_of b ≡ h
-        → ((n : ℕ) → head_of b ≡ Whole n
+    go : (h : Result ℕ Stop) → head_of b ≡ h
+        → ((n : ℕ) → head_of b ≡ Ok n
         → length (played (acted s (entry_of (take n b))) (drop n b)).state.rows ≡ length (acted s (entry_of (take n b))).rows)
         → length (played s b).state.rows ≡ length s.rows
-    go (Stops w) e r = ap (λ (p : Play). length p.state.rows) (play_stops s b w e)
-    go (Whole n) e r = ap (λ (p : Play). length p.state.rows) (play_whole s b n e) ∙ r n e ∙ acted_long s (entry_of (take n b))
+    go (Err w) e r = ap (λ (p : Play). length p.state.rows) (play_stops s b w e)
+    go (Ok n) e r = ap (λ (p : Play). length p.state.rows) (play_whole s b n e) ∙ r n e ∙ acted_long s (entry_of (take n b))
 
 played_long : (s : State) (b : List ℕ) → length (played s b).state.rows ≡ length s.rows
 played_long s b = played_for (length b) s b (omega arith)

@@ -1,7 +1,7 @@
 -- The whole output of day W: the three lines that document 01 prints, byte for byte, in the program's room, whatever that held before; and
 -- of its tape with a byte more and with a byte less.
 -- Assumes nothing.
-use Rattle.std.specs.Prelude.{None, Option, Some, ℕ}
+use Rattle.std.specs.Prelude.{None, Option, Some, ℕ, Err, Ok}
 use Prim.Native.Nat.{ℕ, zero, suc, ◌^◌, ◌≤◌, ◌<◌}
 use mathlib.Core.Path.{◌≡◌, refl, ap, ap₂, sym, subst, ◌∙◌}
 use mathlib.Core.Bool.{Bool, true, ◌&&◌, cond, and-eq-true_iff}
@@ -15,7 +15,6 @@ use Rattle.rows.specs.Rows.{row_limit}
 use Rattle.book.specs.State.{State}
 use Rattle.tape.specs.Entries as Entries
 use Rattle.octets.proofs.Bytes.{append_bytes}
-use Rattle.tape.specs.declared.entries.Head.TheVariants.{Whole, Stops}
 use Rattle.tape.specs.Entries.{EntriesFit, body_length, tape_of}
 use Rattle.tape.specs.declared.Stop.TheVariants.{NoKind, CutShort}
 use Rattle.tape.proofs.Tapes.{whole_tape, cut_tape}
@@ -135,7 +134,7 @@ module _ (rooms : State) (bl : Bytes rooms.lines) (rowsLong : length rooms.rows 
   pub w_stops : (k : ℕ) (more : List ℕ) → Bytes (k ∷ more) → body_length k ≡ 0 → wall_text rooms (tape_w ++ (k ∷ more)) ≡ stopped_w
   unfolding tape_w wall_w Entries.head_of
   w_stops k more bytes none =
-      let head = ap (λ (n : ℕ). cond (eqb n 0) (Stops NoKind) (cond (leb n (length more)) (Whole (suc n)) (Stops CutShort))) none in
+      let head = ap (λ (n : ℕ). cond (eqb n 0) (Err NoKind) (cond (leb n (length more)) (Ok (suc n)) (Err CutShort))) none in
       tape_day (day_of w) 6 6 (lit≤ tt) rooms bl (tape_w ++ (k ∷ more)) (append_bytes tape_w (k ∷ more) w_bytes bytes) entries_w (k ∷ more)
       (cut_tape entries_w (k ∷ more) NoKind w_fits head) w_copies w_largest
       ∙ in_room 6 (ending_at (cond (eqb (body_length k) 0) NoKind CutShort) 296)

@@ -34,11 +34,6 @@ loop-k-init c =
     let lent_to : State = lent c.args.c c.args.rows.now c.args.lines.now in
     (omega arith, none_yet lent_to c.args.ending c.args.out.now)
 
-pub overflow_add-k : goal.overflow_add-k
-overflow_add-k c =
-    let few : c.printed-end.result ≤ 256 = rows_most c.args.rows.now c.args.c.rows c.printed-end.result c.printed-end.ensures in
-    search (rules, few)
-
 pub loop-k-preserved : goal.loop-k-preserved
 loop-k-preserved c =
     let lent_to : State = lent c.args.c c.args.rows.now c.args.lines.now in

@@ -4,4 +4,4 @@ use Rattle.tape.proofs.Plays.{listing_acted}
 use Rattle.tape.proofs.entries.list_entry.Goals as goal
 
 pub returns : goal.returns
-returns c = listing_acted _ _ _ _ c.fill.ensures c.number-close.ensures _ c.list-said.ensures
+returns c = listing_acted _ _ _ _ c.bytes.ensures c.number.ensures _ c.list.ensures
