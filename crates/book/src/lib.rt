@@ -13,7 +13,7 @@ ghost use Rattle.book.specs.Calls.{list_answer, listed, number_cases, used_told,
 use answers::Refusal;
 use counters::Counters;
 use editions::Edition;
-use kinds::kind_of;
+use kinds::Kind;
 use rows::Listing;
 use rules::PRICE_TOP;
 use show::RowShown;
@@ -92,7 +92,7 @@ fn take_message(
     let edition = c.start.edition;
     let q = message::read(edition, message);
     let r = q?;
-    let kind = kind_of(r.letter);
+    let kind = Kind::from(r.letter);
     let rooms = Rooms {
         rows,
         listed: c.rows,

@@ -10,7 +10,7 @@ use lib.Dec.{eqb}
 use Rattle.editions.specs.declared.Edition.{Edition}
 use Rattle.editions.specs.declared.Edition.TheVariants.{NlsPlus, Pls}
 use Rattle.editions.specs.Editions.{edition_number, all_editions, edition_among, edition_named}
-use Rattle.editions.proofs.number.Reads as number-reads
+use Rattle.editions.proofs.U64FromEdition.from.Reads as number-reads
 use Rattle.editions.proofs.edition_of.Reads as edition-of-reads
 use Rattle.editions.proofs.does_report.Reads as does-report-reads
 

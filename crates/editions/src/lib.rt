@@ -13,12 +13,14 @@ pub enum Edition {
 }
 
 // The number of an edition, as a program of another language passes it.
-pub fn number(edition: Edition) -> u64
-    ensures { result ≡ edition_number edition }
-{
-    match edition {
-        Edition::NlsPlus => 0,
-        Edition::Pls => 1,
+impl From<Edition> for u64 {
+    ghost from_gives = { λ edition n. n ≡ edition_number edition };
+
+    fn from(edition: Edition) -> u64 {
+        match edition {
+            Edition::NlsPlus => 0,
+            Edition::Pls => 1,
+        }
     }
 }
 

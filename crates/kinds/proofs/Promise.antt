@@ -7,7 +7,7 @@ use Rattle.kinds.specs.declared.Kind.{Kind}
 use Rattle.kinds.specs.declared.Traits.{Traits}
 use Rattle.kinds.specs.declared.Kind.TheVariants.{Event, Trade, Cancel, Correction, Summary, Other}
 use Rattle.kinds.specs.Kinds.{letter_of, kind_of}
-use Rattle.kinds.proofs.kind_of.Reads as kind-of-reads
+use Rattle.kinds.proofs.KindFromU8.from.Reads as kind-of-reads
 use Rattle.kinds.proofs.kind_at.Reads as kind-at-reads
 use Rattle.kinds.proofs.traits_of.Reads as traits-of-reads
 use Rattle.kinds.proofs.is_event.Reads as is-event-reads

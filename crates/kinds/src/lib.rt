@@ -34,16 +34,18 @@ pub const C_LETTER: u8 = b'C';
 pub const J_LETTER: u8 = b'J';
 
 // The type that a letter names.
-pub fn kind_of(letter: u8) -> Kind
-    ensures { result ≡ kind_of letter }
-{
-    match letter {
-        S_LETTER => Kind::Event,
-        T_LETTER => Kind::Trade,
-        X_LETTER => Kind::Cancel,
-        C_LETTER => Kind::Correction,
-        J_LETTER => Kind::Summary,
-        _ => Kind::Other,
+impl From<u8> for Kind {
+    ghost from_gives = { λ letter kind. kind ≡ kind_of letter };
+
+    fn from(letter: u8) -> Kind {
+        match letter {
+            S_LETTER => Kind::Event,
+            T_LETTER => Kind::Trade,
+            X_LETTER => Kind::Cancel,
+            C_LETTER => Kind::Correction,
+            J_LETTER => Kind::Summary,
+            _ => Kind::Other,
+        }
     }
 }
 

@@ -13,7 +13,7 @@ use answers::Refusal;
 use editions::Edition;
 use formats::{length_of, letter_place, store, unpack};
 use judge::{kept, lawful};
-use kinds::kind_of;
+use kinds::Kind;
 use records::packed::letter;
 use records::{RECORD, Record};
 use single::byte;
@@ -24,7 +24,7 @@ pub fn read_packed(edition: Edition, message: &[u8], b: &mut [u8; RECORD]) -> Re
     ensures answer { result ≡ (read_of edition message.now).answer }
     ensures bytes { b.new ≡ record_bytes (read_of edition message.now).found }
 {
-    let kind = kind_of(byte(message, letter_place(edition)));
+    let kind = Kind::from(byte(message, letter_place(edition)));
     let need = length_of(edition, kind);
     if (need == 0) | (message.len() != need) {
         *b = [0u8; RECORD];
@@ -54,7 +54,7 @@ pub fn write_packed(edition: Edition, b: &[u8; RECORD], out: &mut [u8]) -> Resul
     ensures left { out.new ≡ write_out edition (record_of b.now) out.old }
     ensures fits { RecordFits (record_of b.now) }
 {
-    let kind = kind_of(letter(b));
+    let kind = Kind::from(letter(b));
     if lawful(edition, b, kind) {
         if length_of(edition, kind) <= out.len() {
             store(edition, out, b, kind);

@@ -7,7 +7,7 @@ ghost use Rattle.tape.specs.Playing.{acted};
 
 use crate::Stop;
 use counters::Counters;
-use kinds::kind_of;
+use kinds::Kind;
 use numbers::number;
 use octets::run;
 use packing::length_of;
@@ -38,7 +38,7 @@ fn body_length(letter: u8) -> usize
     if letter == LISTING {
         return SYMBOL + CLOSE;
     }
-    let n = length_of(kind_of(letter));
+    let n = length_of(Kind::from(letter));
     if n == 0 {
         return 0;
     }

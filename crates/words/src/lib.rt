@@ -39,7 +39,7 @@ pub fn counters(w: [u64; COUNTERS]) -> Option<Counters>
 pub fn put_counters(w: &mut [u64; COUNTERS], c: Counters)
     ensures { w.new ≡ W.counter_words c }
 {
-    let n = editions::number(c.start.edition);
+    let n = u64::from(c.start.edition);
     *w = [c.wanted, c.phase, c.rows as u64, c.lines as u64, c.taken, n];
 }
 

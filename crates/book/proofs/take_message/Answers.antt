@@ -33,8 +33,8 @@ returns-in_err-named c =
     let a = c.args in
     let from : State = lent a.c a.rows.now a.lines.now in
     let given : c.from_residual-in_err-named.result ≡ Err c.in_err-named.field-0.0 = search rules in
-    let kind : c.kind_of-kind.result ≡ kind_in (reading_of c.read-q.result).found
-    = c.kind_of-kind.ensures ∙ ap (λ (x : Result _ Refusal). kind_in (reading_of x).found) (sym c.in_ok-r.was) in
+    let kind : c.from-kind.result ≡ kind_in (reading_of c.read-q.result).found
+    = c.from-kind.ensures ∙ ap (λ (x : Result _ Refusal). kind_in (reading_of x).found) (sym c.in_ok-r.was) in
     ap (λ (x : Result Counters Refusal). leaving (used_told a.c x) a.rows.now a.lines.now) given
     ∙ refused_here from a.message.now ((number_wanted _ _ _).0 c.requires) _ c.read-q.ensures _ kind _
     (ap told (sym c.in_err-named.was) ∙ c.judge.ensures) (never_refused _) _ refl
@@ -49,8 +49,8 @@ pub returns : goal.returns
 returns c =
     let a = c.args in
     let from : State = lent a.c a.rows.now a.lines.now in
-    let kind : c.kind_of-kind.result ≡ kind_in (reading_of c.read-q.result).found
-    = c.kind_of-kind.ensures ∙ ap (λ (x : Result _ Refusal). kind_in (reading_of x).found) (sym c.in_ok-r.was) in
+    let kind : c.from-kind.result ≡ kind_in (reading_of c.read-q.result).found
+    = c.from-kind.ensures ∙ ap (λ (x : Result _ Refusal). kind_in (reading_of x).found) (sym c.in_ok-r.was) in
     let was : (reading_of c.read-q.result).found ≡ c.in_ok-r.r = ap (λ (x : Result _ Refusal). (reading_of x).found) c.in_ok-r.was in
     taken_here_lem from a.message.now ((number_wanted _ _ _).0 c.requires) _ c.read-q.ensures _ kind _
     (ap told (sym c.in_ok-named.was) ∙ c.judge.ensures) refl _ _ _

@@ -30,9 +30,9 @@ returns-then-need-message c =
     record {
       edition = a.edition;
       message = a.message.now;
-      kind = c.kind_of-kind.result;
+      kind = c.from-kind.result;
       typed =
-          c.kind_of-kind.ensures
+          c.from-kind.ensures
           ∙ ap kind_of (c.byte.ensures ∙ ap (λ (n : ℕ). get_or a.message.now n 0) c.letter_place.ensures);
       bytes = λ i. (c.type_inv.message i).fits;
     } in
@@ -45,9 +45,9 @@ returns-then-ready-kept c =
     record {
       edition = a.edition;
       message = a.message.now;
-      kind = c.kind_of-kind.result;
+      kind = c.from-kind.result;
       typed =
-          c.kind_of-kind.ensures
+          c.from-kind.ensures
           ∙ ap kind_of (c.byte.ensures ∙ ap (λ (n : ℕ). get_or a.message.now n 0) c.letter_place.ensures);
       bytes = λ i. (c.type_inv.message i).fits;
     } in
@@ -63,9 +63,9 @@ returns c =
     record {
       edition = a.edition;
       message = a.message.now;
-      kind = c.kind_of-kind.result;
+      kind = c.from-kind.result;
       typed =
-          c.kind_of-kind.ensures
+          c.from-kind.ensures
           ∙ ap kind_of (c.byte.ensures ∙ ap (λ (n : ℕ). get_or a.message.now n 0) c.letter_place.ensures);
       bytes = λ i. (c.type_inv.message i).fits;
     } in

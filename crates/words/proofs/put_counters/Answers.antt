@@ -15,4 +15,4 @@ unfolding counter_words
 are_words c n e = ap (λ (x : ℕ). c.wanted ∷ c.phase ∷ c.rows ∷ c.lines ∷ c.taken ∷ x ∷ []) e
 
 pub returns : goal.returns
-returns c = are_words c.args.c c.number-n.result c.number-n.ensures
+returns c = are_words c.args.c c.from-n.result c.from-n.ensures

@@ -1,8 +1,8 @@
--- `kinds::kind_of` meets its contract.
+-- `Kind::from` meets its contract.
 -- Assumes nothing.
 use borrow.Author.Tests.{ne_eqb}
 use Rattle.kinds.specs.Kinds.{kind_of}
-use Rattle.kinds.proofs.kind_of.Goals as goal
+use Rattle.kinds.proofs.KindFromU8.from.Goals as goal
 
 pub returns-in-83 : goal.returns-in-83
 unfolding kind_of
