@@ -1,5 +1,6 @@
 // The book of one day: counters by value, rows and lines in lent bytes. No call counts on its caller for a check, and a
-// refused one leaves every lent byte as it was.
+// refused one leaves every lent byte as it was. Counters and rooms are parameters of their own and no struct: C lends
+// them so, and `list_says`, `deliver_says` and `row_says` speak of the arguments of each call.
 #![tactic(auto)]
 
 ghost use Rattle.std.specs.Prelude.{◌≡◌};
@@ -21,7 +22,7 @@ use sound::is_sound;
 use table::{Rooms, judge, judge_number};
 use take::{take_lines, take_rows};
 
-// The answer to a listing or a message, and the counters that follow from it.
+// The answer to a listing or a message, and the counters that follow from it: a refused message may use up its number.
 #[derive(Clone, Copy)]
 pub struct Said {
     pub answer: Result<(), Refusal>,

@@ -17,8 +17,9 @@ pub struct Start {
     pub edition: Edition,
 }
 
-// What the book was started with, the wanted number, the phase, and the counts: rows used, lines used, messages taken.
-// The phase is 0 before any event was taken, then 1 to 6 for O S Q M E C.
+// What the book was started with, the wanted number, the phase, and the counts: rows used, lines used, messages
+// taken. The phase is 0 before any event was taken, then 1 to 6 for O S Q M E C. It is a number and no enum, since it
+// comes from C as any number: a book whose phase is none of these is answered 17 (`sound`).
 #[derive(Clone, Copy)]
 pub struct Counters {
     pub start: Start,

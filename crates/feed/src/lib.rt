@@ -23,7 +23,8 @@ pub struct Fed {
     pub stop: Stop,
 }
 
-// Plays the first n bytes of a piece, or all where it has fewer.
+// Plays the first n bytes of a piece, or all where it has fewer. The piece is all of the room that is read into, since
+// what is held moves to its front.
 pub fn feed(c: Counters, rows: &mut [u8], lines: &mut [u8], piece: &mut [u8], n: usize) -> Fed
     ensures { came_of result (lent result.counters rows.new lines.new) piece.new
         ≡ fed (lent c rows.old lines.old) n piece.old }

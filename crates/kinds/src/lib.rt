@@ -49,7 +49,8 @@ impl From<u8> for Kind {
     }
 }
 
-// The type at a place of the list of types: S T X C J; none past its end.
+// The type at a place of the list of types: S T X C J; none past its end. The place is a number, since C asks for the
+// length of a type's messages by one (`sizes::size`).
 pub fn kind_at(place: u64) -> Kind
     ensures { result ≡ kind_at place }
 {

@@ -57,7 +57,8 @@ fn end_line(ending: Option<u64>, out: &mut [u8]) -> usize
 }
 
 // Writes line k of the wall and tells its length: the columns' names, a row for each listing, the closing line, and
-// where the tape stops. Past the last line nothing is written.
+// where the tape stops. Past the last line nothing is written. Whoever writes the wall line by line calls it by a
+// number (`line_of`).
 pub fn line(
     c: Counters,
     rows: &[u8],

@@ -6,6 +6,8 @@ ghost use Rattle.decimal.specs.Decimal.{lowest};
 ghost use Rattle.digits.specs.Field.{shown_in};
 ghost use Rattle.plswrite.specs.Stored.{higher, due};
 
+use octets::run::paste;
+
 // The digit 0 four times, as a number of four bytes.
 const ZEROS: u32 = 808464432;
 
@@ -29,11 +31,7 @@ fn put_four(out: &mut [u8], at: usize, x: u32) -> u32
     ensures bytes { out.new ≡ sets out.old at (lowest 4 x) }
     ensures left { result ≡ higher 4 x }
 {
-    let word = spread(x);
-    out[at + 3] = (word / 16777216) as u8;
-    out[at + 2] = (word / 65536 % 256) as u8;
-    out[at + 1] = (word / 256 % 256) as u8;
-    out[at] = (word % 256) as u8;
+    paste(out, at, &spread(x).to_le_bytes());
     x / 10000
 }
 

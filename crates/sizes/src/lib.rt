@@ -1,4 +1,5 @@
-// The sizes that a caller of the library needs: what it lends room by, and how much of it is written.
+// The sizes that a caller of the library needs: what it lends room by, and how much of it is written. They are asked
+// for by number: so C asks.
 #![tactic(auto)]
 
 ghost use Rattle.std.specs.Prelude.{◌≡◌};

@@ -95,8 +95,9 @@ fn judge_trade(rooms: Rooms, kind: Kind, r: Record) -> Result<usize, Refusal>
 
 // 7 to 12, or the row of the message's symbol and the line that it names.
 fn judge_listed(rooms: Rooms, kind: Kind, r: Record) -> Result<Named, Refusal>
-    ensures { Working.told result
-        ≡ Working.listed_by (used_sheet rooms.entry.rows.now rooms.entry.listed) (ledger_in rooms.entry.lines.now rooms.entry.used) kind r }
+    ensures { Working.told result ≡ Working.listed_by
+        (used_sheet rooms.entry.rows.now rooms.entry.listed)
+        (ledger_in rooms.entry.lines.now rooms.entry.used) kind r }
 {
     let symbol = r.symbol;
     let Some(row) = rows::find(rooms.rows, rooms.listed, symbol) else {
@@ -113,8 +114,9 @@ pub fn judge(
     kind: Kind,
     q: Result<Record, Refusal>,
 ) -> Result<Named, Refusal>
-    ensures { Working.told result
-        ≡ Working.judged_by (basis_in phase rooms.entry.rows.now rooms.entry.listed rooms.entry.lines.now rooms.entry.used) kind (reading_of q) }
+    ensures { Working.told result ≡ Working.judged_by
+        (basis_in phase rooms.entry.rows.now rooms.entry.listed
+        rooms.entry.lines.now rooms.entry.used) kind (reading_of q) }
 {
     let r = q?;
     if !is_due(phase, kind, r.event) {

@@ -37,6 +37,7 @@ pub fn play(c: Counters, rows: &mut [u8], lines: &mut [u8], part: &[u8]) -> Play
 {
     let mut counters = c;
     let mut at: usize = 0;
+    // The place moves by the length of each entry, so no range counts it.
     loop {
         match head_at(part, at) {
             Err(stop) => {
