@@ -9,11 +9,9 @@ use native.Mathlib.Omega.{arith}
 use borrow.Author.Tests.{ltb-true, ltb-false, ne_eqb}
 use borrow.Rule.Slice.PartMut.{put_mid}
 use lib.Dec.{ltb, lit<}
-use lib.ListN.{length, get_or, take, drop, set, replicate, length-take, length-drop, length-set, length-replicate, length-append}
+use lib.ListN.{length, take, drop, set, replicate, length-take, length-drop, length-set, length-replicate, length-append}
 use lib.ListN.{replicate-append-replicate}
 use lib.Seq.{drop-drop, sets, sets-eq, set-set, set_comm, length-sets}
-use Rattle.std.specs.Int.{w32, from_le_bytes, to_le_bytes}
-use Rattle.std.proofs.lemmas.Nat.{le_bytes_4}
 use Rattle.octets.specs.Low.{low}
 use Rattle.octets.proofs.Laws.{sets_then}
 use Rattle.decimal.specs.Decimal.{digit_count, lowest}
@@ -132,26 +130,34 @@ spread_is x w e =
     = rw (two_high x, two_low x, tens_of a b (omega arith) (omega arith)) at e ∙ digits_of a b (omega arith) (omega arith) in
     f ∙ rw (one_high (x / 10 / 10), one_low (x / 10 / 10), one_high x, one_low x) (sym (word_is x))
 
--- four bytes as one number, the first the lowest
-le_low : (a b c d : ℕ) → low (a ∷ b ∷ c ∷ d ∷ []) ≡ from_le_bytes w32 (a ∷ b ∷ c ∷ d ∷ [])
-unfolding low
-le_low a b c d = omega arith
-
-digits_fit : (x i : ℕ) → get_or (lowest 4 x) i 0 < 256
-unfolding lowest
-digits_fit x zero = omega arith
-digits_fit x (suc zero) = omega arith
-digits_fit x (suc (suc zero)) = omega arith
-digits_fit x (suc (suc (suc zero))) = omega arith
-digits_fit x (suc (suc (suc (suc i)))) = omega arith
+-- the bytes of a number
+bytes_of : (p q r s w : ℕ) → p < 256 → q < 256 → r < 256 → s < 256 → w ≡ p + 256 * (q + 256 * (r + 256 * s))
+    → (w % 256 ≡ p) × (w / 256 % 256 ≡ q) × (w / 65536 % 256 ≡ r) × (w / 16777216 ≡ s)
+bytes_of p q r s w hp hq hr hs e = (omega arith, omega arith, omega arith, omega arith)
 
 -- the four digits that are stored at once
 pub four_low : (l : List ℕ) (at x w : ℕ) → w ≡ low (lowest 4 x)
-    → (sets l at (to_le_bytes w32 w) ≡ sets l at (lowest 4 x)) × (x / 10000 ≡ higher 4 x)
-unfolding higher lowest
+    → (set (set (set (set l (at + 3) (w / 16777216)) (at + 2) (w / 65536 % 256)) (at + 1) (w / 256 % 256)) at (w % 256)
+    ≡ sets l at (lowest 4 x))
+    × (x / 10000 ≡ higher 4 x)
 four_low l at x w f =
+    let b = bytes_of
+    (48 + x / 10 / 10 / 10 % 10)
+    (48 + x / 10 / 10 % 10)
+    (48 + x / 10 % 10)
+    (48 + x % 10)
+    w
+    (omega arith)
+    (omega arith)
+    (omega arith)
+    (omega arith)
+    (f ∙ word_is x) in
     let e : x / 10000 ≡ x / 10 / 10 / 10 / 10 = omega arith in
-    (ap (sets l at) (le_bytes_4 (lowest 4 x) w (lowest_length 4 x) (digits_fit x) (f ∙ le_low _ _ _ _)), e)
+    let one = low_turn l l at 4 x 4 x (low_first l at 4 x) (lit< tt) in
+    let two = low_turn _ l at 3 (x / 10) 4 x one (lit< tt) in
+    let three = low_turn _ l at 2 (x / 10 / 10) 4 x two (lit< tt) in
+    let four = low_turn _ l at 1 (x / 10 / 10 / 10) 4 x three (lit< tt) in
+    rw (b.0, b.1, b.2, b.3, e) (rw (add-zero at) at (low_end _ l at 0 (x / 10 / 10 / 10 / 10) 4 x four refl))
 
 -- the lowest digits of a number are those of what is left, and those that are not
 higher_more : (n k x : ℕ) → higher (n + k) x ≡ higher k (higher n x)
