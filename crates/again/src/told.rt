@@ -12,10 +12,9 @@ pub fn tell<W: Write>(out: &mut W, r: Record) -> Result<()> {
 }
 
 fn head<W: Write>(out: &mut W, r: Record) -> Result<()> {
-    let time = r.time;
     telling::words(out, b"\ntype ")?;
     telling::letter(out, r.letter)?;
-    write!(out, " time {time} event ")?;
+    write!(out, " time {} event ", r.time)?;
     telling::letter(out, r.event)
 }
 

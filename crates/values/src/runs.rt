@@ -16,12 +16,10 @@ struct Run {
 // The places.
 impl fmt::Display for Run {
     fn fmt<W: fmt::Write>(&self, f: &mut fmt::Formatter<W>) -> fmt::Result {
-        let first = self.first;
-        let last = self.last;
-        if first < last {
-            write!(f, "{first}-{last}")
+        if self.first < self.last {
+            write!(f, "{}-{}", self.first, self.last)
         } else {
-            write!(f, "{first}")
+            write!(f, "{}", self.first)
         }
     }
 }
@@ -73,8 +71,7 @@ pub fn tell_taken<W: Write>(out: &mut W, answers: &[u8]) -> Result<()> {
 // Each run, with its answer.
 pub fn tell_answers<W: Write>(out: &mut W, answers: &[u8]) -> Result<()> {
     for run in runs_of(answers) {
-        let answer = run.answer;
-        write!(out, " {run}:{answer}")?;
+        write!(out, " {run}:{}", run.answer)?;
     }
     telling::words(out, b"\n")
 }
