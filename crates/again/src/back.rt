@@ -18,8 +18,7 @@ pub fn read<W: Write>(out: &mut W, message: &[u8]) -> Result<Record> {
     telling::words(out, b"given ")?;
     telling::hex(out, message)?;
     let said = message::read(Edition::NlsPlus, message);
-    telling::words(out, b"\nread ")?;
-    telling::answer(out, answers::number(said.map(|_| ())))?;
+    write!(out, "\nread {}", answers::number(said.map(|_| ())))?;
     let found = said.unwrap_or(no_record());
     told::tell(out, found)?;
     Ok(found)
@@ -27,15 +26,13 @@ pub fn read<W: Write>(out: &mut W, message: &[u8]) -> Result<Record> {
 
 // The record that is told of a message that was refused: every field is zero.
 pub fn no_record() -> Record {
-    records::packed::record(&[0u8; RECORD])
+    records::packed::record(&[0; RECORD])
 }
 
 // Writes a record, and tells the answer and the space's bytes.
 pub fn write<W: Write>(out: &mut W, r: Record, space: &mut [u8]) -> Result<()> {
     let answer = message::write(Edition::NlsPlus, r, space);
-    telling::words(out, b"write ")?;
-    telling::answer(out, answers::number(answer))?;
-    telling::words(out, b"\nspace ")?;
+    write!(out, "write {}\nspace ", answers::number(answer))?;
     telling::hex(out, space)?;
     telling::words(out, b"\n")
 }

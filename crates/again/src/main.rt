@@ -6,47 +6,29 @@ mod refused;
 mod sound;
 mod told;
 
+ghost use Rattle.std.specs.Prelude.{◌<◌, ◌^◌};
+
 use std::io::{Result, Write};
 
 fn main(rt: HostRuntime) -> Result<()> {
     let mut out = rt.stdout();
-    event(&mut out)?;
-    trade(&mut out, b"T\n", b'T')?;
-    trade(&mut out, b"X\n", b'X')?;
-    correction(&mut out)?;
-    summary(&mut out)?;
+    there_and_back::<6, 9, _>(&mut out, b'S')?;
+    there_and_back::<45, 48, _>(&mut out, b'T')?;
+    there_and_back::<45, 48, _>(&mut out, b'X')?;
+    there_and_back::<67, 70, _>(&mut out, b'C')?;
+    there_and_back::<34, 37, _>(&mut out, b'J')?;
     refused::reads(&mut out)?;
     refused::writes(&mut out)
 }
 
-fn event<W: Write>(out: &mut W) -> Result<()> {
-    let mut message = [0u8; 6];
-    let mut space = [back::MARKER; 9];
-    sound::event(&mut message);
-    telling::words(out, b"S\n")?;
-    back::again(out, &message, &mut space)
-}
-
-fn trade<W: Write>(out: &mut W, name: &[u8], kind: u8) -> Result<()> {
-    let mut message = [0u8; 45];
-    let mut space = [back::MARKER; 48];
-    sound::trade(&mut message, kind);
-    telling::words(out, name)?;
-    back::again(out, &message, &mut space)
-}
-
-fn correction<W: Write>(out: &mut W) -> Result<()> {
-    let mut message = [0u8; 67];
-    let mut space = [back::MARKER; 70];
-    sound::correction(&mut message);
-    telling::words(out, b"C\n")?;
-    back::again(out, &message, &mut space)
-}
-
-fn summary<W: Write>(out: &mut W) -> Result<()> {
-    let mut message = [0u8; 34];
-    let mut space = [back::MARKER; 37];
-    sound::summary(&mut message);
-    telling::words(out, b"J\n")?;
-    back::again(out, &message, &mut space)
+// A message of N bytes of the type that a letter names, read and written back into a space of ROOM bytes.
+fn there_and_back<const N: usize, const ROOM: usize, W: Write>(
+    out: &mut W,
+    letter: u8,
+) -> Result<()>
+    requires message { N < 2 ^ 63 }
+    requires space { ROOM < 2 ^ 63 }
+{
+    telling::words(out, &[letter, b'\n'])?;
+    back::again(out, &sound::of_type::<N>(letter), &mut [back::MARKER; ROOM])
 }

@@ -1,59 +1,42 @@
 // What is refused, tried on a trade report: the record is of zeros, and the lent space stays.
-use crate::{back, sound};
+use crate::back;
+use crate::sound::{FIGURES, of_type};
 use editions::Edition;
-use records::Record;
+use records::{Record, Sale};
 use std::io::{Result, Write};
 
 // Messages that the reader refuses.
 pub fn reads<W: Write>(out: &mut W) -> Result<()> {
-    // The last byte of a whole report has no place here.
-    let mut cut = [0u8; 44];
-    sound::trade(&mut cut, b'T');
     telling::words(out, b"T one byte short\n")?;
-    back::read(out, &cut)?;
-    let mut message = [0u8; 45];
-    sound::trade(&mut message, b'T');
-    numbers::put::<u32>(&mut message, 25, 0);
+    back::read(out, &of_type::<44>(b'T'))?;
+    let price_0 = Record {
+        sale: Sale {
+            price: 0,
+            ..FIGURES.sale
+        },
+        ..FIGURES
+    };
     telling::words(out, b"T with price 0\n")?;
-    back::read(out, &message)?;
+    back::read(out, &sample::message::<45>(price_0))?;
     Ok(())
 }
 
 // Records and spaces that the writer refuses.
 pub fn writes<W: Write>(out: &mut W) -> Result<()> {
     let r = report();
+    let with_event = Record { event: b'O', ..r };
+    let renamed = Record { letter: b'Z', ..r };
     telling::words(out, b"T into a space one byte short\n")?;
-    short(out, r)?;
+    back::write(out, r, &mut [back::MARKER; 44])?;
     telling::words(out, b"T with an event\n")?;
-    whole(out, with_event(r))?;
+    back::write(out, with_event, &mut [back::MARKER; 48])?;
     telling::words(out, b"T with an event into a space one byte short\n")?;
-    short(out, with_event(r))?;
+    back::write(out, with_event, &mut [back::MARKER; 44])?;
     telling::words(out, b"T renamed Z\n")?;
-    whole(out, renamed(r))
+    back::write(out, renamed, &mut [back::MARKER; 48])
 }
 
+// A trade report as it is read.
 fn report() -> Record {
-    let mut message = [0u8; 45];
-    sound::trade(&mut message, b'T');
-    message::read(Edition::NlsPlus, &message).unwrap_or(back::no_record())
-}
-
-fn short<W: Write>(out: &mut W, r: Record) -> Result<()> {
-    let mut space = [back::MARKER; 44];
-    back::write(out, r, &mut space)
-}
-
-fn whole<W: Write>(out: &mut W, r: Record) -> Result<()> {
-    let mut space = [back::MARKER; 48];
-    back::write(out, r, &mut space)
-}
-
-fn with_event(mut r: Record) -> Record {
-    r.event = b'O';
-    r
-}
-
-fn renamed(mut r: Record) -> Record {
-    r.letter = b'Z';
-    r
+    message::read(Edition::NlsPlus, &of_type::<45>(b'T')).unwrap_or(back::no_record())
 }

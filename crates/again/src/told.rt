@@ -6,64 +6,43 @@ use std::io::{Result, Write};
 pub fn tell<W: Write>(out: &mut W, r: Record) -> Result<()> {
     head(out, r)?;
     place(out, r)?;
-    let original = r.sale;
-    let new = r.new;
-    sale(out, original, b"")?;
-    sale(out, new, b"new ")?;
+    sale(out, r.sale, "")?;
+    sale(out, r.new, "new ")?;
     day(out, r)
 }
 
 fn head<W: Write>(out: &mut W, r: Record) -> Result<()> {
     telling::words(out, b"\ntype ")?;
     telling::letter(out, r.letter)?;
-    telling::words(out, b" time ")?;
-    telling::number(out, r.time as u64)?;
-    telling::words(out, b" event ")?;
+    write!(out, " time {} event ", r.time)?;
     telling::letter(out, r.event)
 }
 
 fn place<W: Write>(out: &mut W, r: Record) -> Result<()> {
-    let symbol = r.symbol;
     telling::words(out, b"\ncentre ")?;
     telling::letter(out, r.centre)?;
     telling::words(out, b" symbol ")?;
-    telling::text(out, &symbol)?;
+    telling::text(out, &r.symbol)?;
     telling::words(out, b" class ")?;
     telling::letter(out, r.class)
 }
 
 // A sale, its names after a mark that tells the new one from the original.
-fn sale<W: Write>(out: &mut W, s: Sale, mark: &[u8]) -> Result<()> {
-    let control = s.control;
-    name(out, b"\n", mark, b"control ")?;
-    telling::text(out, &control)?;
-    name(out, b" ", mark, b"price ")?;
-    telling::number(out, s.price as u64)?;
-    name(out, b" ", mark, b"size ")?;
-    telling::number(out, s.size as u64)?;
-    codes(out, s, mark)
-}
-
-fn codes<W: Write>(out: &mut W, s: Sale, mark: &[u8]) -> Result<()> {
-    let condition = s.condition;
-    name(out, b" ", mark, b"condition ")?;
-    telling::text(out, &condition)
-}
-
-fn name<W: Write>(out: &mut W, before: &[u8], mark: &[u8], field: &[u8]) -> Result<()> {
-    telling::words(out, before)?;
-    telling::words(out, mark)?;
-    telling::words(out, field)
+fn sale<W: Write>(out: &mut W, s: Sale, mark: &str) -> Result<()> {
+    write!(out, "\n{mark}control ")?;
+    telling::text(out, &s.control)?;
+    write!(
+        out,
+        " {mark}price {} {mark}size {} {mark}condition ",
+        s.price, s.size
+    )?;
+    telling::text(out, &s.condition)
 }
 
 fn day<W: Write>(out: &mut W, r: Record) -> Result<()> {
-    telling::words(out, b"\nhigh ")?;
-    telling::number(out, r.high as u64)?;
-    telling::words(out, b" low ")?;
-    telling::number(out, r.low as u64)?;
-    telling::words(out, b" close ")?;
-    telling::number(out, r.close as u64)?;
-    telling::words(out, b" consolidated ")?;
-    telling::number(out, r.consolidated)?;
-    telling::words(out, b"\n")
+    writeln!(
+        out,
+        "\nhigh {} low {} close {} consolidated {}",
+        r.high, r.low, r.close, r.consolidated
+    )
 }

@@ -21,10 +21,7 @@ pub fn words<W: Write>(out: &mut W, text: &[u8]) -> Result<()>
 pub fn rest<W: Write>(out: &mut W, text: &[u8], at: usize) -> Result<()>
     ensures { OnOk result (Appends (W.contents out.old) (W.contents out.new) (drop at text.now)) }
 {
-    if at < text.len() {
-        return words(out, &text[at..]);
-    }
-    Ok(())
+    words(out, &text[at.min(text.len())..])
 }
 
 // A number in decimal.
@@ -38,7 +35,7 @@ pub fn number<W: Write>(out: &mut W, x: u64) -> Result<()>
 pub fn answer<W: Write>(out: &mut W, x: u8) -> Result<()>
     ensures { OnOk result (Appends (W.contents out.old) (W.contents out.new) (decimal x)) }
 {
-    number(out, x as u64)
+    write!(out, "{x}")
 }
 
 // A number after what it is called.

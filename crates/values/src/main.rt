@@ -5,12 +5,12 @@
 mod lengths;
 mod ranges;
 mod runs;
-mod sample;
 mod sets;
 mod sound;
+mod tried;
 
-use sample::Sample;
 use std::io::{Result, Write};
+use tried::Tried;
 
 // The last millisecond of the day.
 const TIME: u64 = 86399999;
@@ -18,10 +18,10 @@ const TIME: u64 = 86399999;
 // The feed's highest price, in ten-thousandths.
 const PRICE: u64 = 2000000000;
 
-// The largest number of four bytes, and of eight.
-const SIZE: u64 = 4294967295;
+// A size and a volume may be any number of their width.
+const SIZE: u64 = u32::MAX as u64;
 
-const VOLUME: u64 = 18446744073709551615;
+const VOLUME: u64 = u64::MAX;
 
 fn main(rt: HostRuntime) -> Result<()> {
     let mut out = rt.stdout();
@@ -33,58 +33,58 @@ fn main(rt: HostRuntime) -> Result<()> {
 }
 
 fn event<W: Write>(out: &mut W) -> Result<()> {
-    let s = sound::event();
-    sets::letter(out, s, b"type", 4)?;
-    sets::letter(out, s, b"event", 5)?;
-    ranges::number(out, s, b"time", 0, 4, TIME)?;
-    lengths::every(out, s)
+    let m = sound::event();
+    sets::letter(out, m, b"type", 4)?;
+    sets::letter(out, m, b"event", 5)?;
+    ranges::number::<u32, W>(out, m, b"time", 0, TIME)?;
+    lengths::every(out, m)
 }
 
-fn trade<W: Write>(out: &mut W, s: Sample) -> Result<()> {
-    original(out, s)?;
-    amounts(out, s)?;
-    ranges::number(out, s, b"consolidated", 37, 8, VOLUME)?;
-    lengths::every(out, s)
+fn trade<W: Write>(out: &mut W, m: Tried) -> Result<()> {
+    original(out, m)?;
+    amounts(out, m)?;
+    ranges::number::<u64, W>(out, m, b"consolidated", 37, VOLUME)?;
+    lengths::every(out, m)
 }
 
 fn correction<W: Write>(out: &mut W) -> Result<()> {
-    let s = sound::correction();
-    original(out, s)?;
-    sets::text(out, s, b"new control", 37, 10)?;
-    sets::text(out, s, b"new condition", 55, 4)?;
-    amounts(out, s)?;
-    ranges::number(out, s, b"new price", 47, 4, PRICE)?;
-    ranges::number(out, s, b"new size", 51, 4, SIZE)?;
-    ranges::number(out, s, b"consolidated", 59, 8, VOLUME)?;
-    lengths::every(out, s)
+    let m = sound::correction();
+    original(out, m)?;
+    sets::text(out, m, b"new control", 37, 10)?;
+    sets::text(out, m, b"new condition", 55, 4)?;
+    amounts(out, m)?;
+    ranges::number::<u32, W>(out, m, b"new price", 47, PRICE)?;
+    ranges::number::<u32, W>(out, m, b"new size", 51, SIZE)?;
+    ranges::number::<u64, W>(out, m, b"consolidated", 59, VOLUME)?;
+    lengths::every(out, m)
 }
 
 fn summary<W: Write>(out: &mut W) -> Result<()> {
-    let s = sound::summary();
-    sets::letter(out, s, b"type", 4)?;
-    sets::text(out, s, b"symbol", 5, 8)?;
-    sets::letter(out, s, b"class", 13)?;
-    ranges::number(out, s, b"time", 0, 4, TIME)?;
-    ranges::number(out, s, b"high", 14, 4, PRICE)?;
-    ranges::number(out, s, b"low", 18, 4, PRICE)?;
-    ranges::number(out, s, b"close", 22, 4, PRICE)?;
-    ranges::number(out, s, b"consolidated", 26, 8, VOLUME)?;
-    lengths::every(out, s)
+    let m = sound::summary();
+    sets::letter(out, m, b"type", 4)?;
+    sets::text(out, m, b"symbol", 5, 8)?;
+    sets::letter(out, m, b"class", 13)?;
+    ranges::number::<u32, W>(out, m, b"time", 0, TIME)?;
+    ranges::number::<u32, W>(out, m, b"high", 14, PRICE)?;
+    ranges::number::<u32, W>(out, m, b"low", 18, PRICE)?;
+    ranges::number::<u32, W>(out, m, b"close", 22, PRICE)?;
+    ranges::number::<u64, W>(out, m, b"consolidated", 26, VOLUME)?;
+    lengths::every(out, m)
 }
 
 // The letters and texts that T, X and C have alike.
-fn original<W: Write>(out: &mut W, s: Sample) -> Result<()> {
-    sets::letter(out, s, b"type", 4)?;
-    sets::letter(out, s, b"centre", 5)?;
-    sets::text(out, s, b"symbol", 6, 8)?;
-    sets::letter(out, s, b"class", 14)?;
-    sets::text(out, s, b"control", 15, 10)?;
-    sets::text(out, s, b"condition", 33, 4)
+fn original<W: Write>(out: &mut W, m: Tried) -> Result<()> {
+    sets::letter(out, m, b"type", 4)?;
+    sets::letter(out, m, b"centre", 5)?;
+    sets::text(out, m, b"symbol", 6, 8)?;
+    sets::letter(out, m, b"class", 14)?;
+    sets::text(out, m, b"control", 15, 10)?;
+    sets::text(out, m, b"condition", 33, 4)
 }
 
 // The numbers that T, X and C have alike.
-fn amounts<W: Write>(out: &mut W, s: Sample) -> Result<()> {
-    ranges::number(out, s, b"time", 0, 4, TIME)?;
-    ranges::number(out, s, b"price", 25, 4, PRICE)?;
-    ranges::number(out, s, b"size", 29, 4, SIZE)
+fn amounts<W: Write>(out: &mut W, m: Tried) -> Result<()> {
+    ranges::number::<u32, W>(out, m, b"time", 0, TIME)?;
+    ranges::number::<u32, W>(out, m, b"price", 25, PRICE)?;
+    ranges::number::<u32, W>(out, m, b"size", 29, SIZE)
 }

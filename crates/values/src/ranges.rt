@@ -1,41 +1,30 @@
 // The answers to a number field at 0, 1, its top, one past its top and the largest value of its width.
-use crate::sample;
-use crate::sample::Sample;
+use crate::tried::Tried;
+use numbers::Unsigned;
 use std::io::{Result, Write};
+use std::num::TryFromIntError;
 
 // The answers at both ends of a number's range, and just past its top where the width has room for that.
-pub fn number<W: Write>(
+pub fn number<T: Unsigned + TryFrom<u64, Error = TryFromIntError>, W: Write>(
     out: &mut W,
-    s: Sample,
+    m: Tried,
     name: &[u8],
     at: usize,
-    width: usize,
     top: u64,
 ) -> Result<()> {
-    let most = largest(width);
-    telling::label(out, s.kind, name)?;
-    answer(out, s, at, width, 0)?;
-    answer(out, s, at, width, 1)?;
-    answer(out, s, at, width, top)?;
-    if top < most {
-        answer(out, s, at, width, top + 1)?;
-    } else {
-        telling::words(out, b" -")?;
+    telling::label(out, m.letter, name)?;
+    for x in [Some(0), Some(1), Some(top), top.checked_add(1)] {
+        let x = x.and_then(|x| T::try_from(x).ok());
+        answer(out, m, at, x)?;
     }
-    answer(out, s, at, width, most)?;
+    answer(out, m, at, Some(T::first(&[u8::MAX; 8])))?;
     telling::words(out, b"\n")
 }
 
-fn answer<W: Write>(out: &mut W, s: Sample, at: usize, width: usize, x: u64) -> Result<()> {
-    telling::words(out, b" ")?;
-    telling::answer(out, sample::answered(sample::with_number(s, at, width, x)))
-}
-
-// The largest number of four bytes, or of eight.
-fn largest(width: usize) -> u64 {
-    if width == 4 {
-        4294967295
-    } else {
-        18446744073709551615
+// The answer with another number at a place; a dash for a number that the width has no room for.
+fn answer<T: Unsigned, W: Write>(out: &mut W, m: Tried, at: usize, x: Option<T>) -> Result<()> {
+    match x {
+        None => telling::words(out, b" -"),
+        Some(x) => write!(out, " {}", m.with_number(at, x).answer()),
     }
 }

@@ -4,7 +4,7 @@ ghost use Rattle.editions.specs.declared.Edition.TheVariants.{NlsPlus};
 ghost use Rattle.counters.specs.Counting.{fresh_counters};
 ghost use Rattle.wall.specs.Reads.{DayIs};
 
-use crate::input::Rest;
+use crate::input::{Rest, Tape};
 use crate::{input, paper};
 use std::io::{Read, Write};
 use tape::Stop;
@@ -22,9 +22,7 @@ pub fn play<R: Read, W: Write>(input: &mut R, out: &mut W, rows: &mut [u8], line
     ensures { DayIs (lent (fresh_counters NlsPlus) rows.old lines.old) (R.remaining input.old)
         (R.remaining input.new) (W.contents out.old) (W.contents out.new) result }
 {
-    let tape = input::all(input, rows, lines);
-    let reading = tape.reading;
-    let rest = tape.rest;
+    let Tape { reading, rest } = input::all(input, rows, lines);
     let written = match rest {
         Rest::Closed => paper::print(out, reading, rows, lines).is_ok(),
         _ => false,

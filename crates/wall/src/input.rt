@@ -6,7 +6,6 @@ ghost use Rattle.book.specs.State.{State, lent};
 ghost use Rattle.feed.specs.Reading.{standing, gone};
 ghost use Rattle.wall.specs.Reads.{AllPlayed, ReadSoFar, ReadMore, is_open, rest_after};
 
-use bounds::lesser;
 use feed::reading::{Reading, go_on};
 use std::io::Read;
 use tape::Stop;
@@ -75,7 +74,7 @@ fn one<R: Read>(
         (standing result.reading (lent result.reading.counters rows.new lines.new) piece.new) }
 {
     let reading = tape.reading;
-    let from = lesser(reading.held, piece.len());
+    let from = reading.held.min(piece.len());
     let rest = match input.read(&mut piece[from..]) {
         Ok(0) => Rest::Closed,
         Ok(n) => return play_on(reading, rows, lines, piece, from + n),
@@ -90,11 +89,10 @@ fn play_on(reading: Reading, rows: &mut [u8], lines: &mut [u8], piece: &mut [u8]
         ≡ gone reading.at (lent reading.counters rows.old lines.old) n piece.old }
     ensures rest { result.rest ≡ rest_after result.reading.stop }
 {
-    let then = go_on(reading, rows, lines, piece, n);
-    let stop = then.stop;
+    let reading = go_on(reading, rows, lines, piece, n);
     Tape {
-        reading: then,
-        rest: after(stop),
+        reading,
+        rest: after(reading.stop),
     }
 }
 

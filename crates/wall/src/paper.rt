@@ -6,7 +6,6 @@ ghost use Rattle.book.specs.State.{lent};
 ghost use Rattle.page.specs.Page.{wall_of, ending_at};
 ghost use Rattle.page.specs.Printable.{wall_longest};
 
-use bounds::lesser;
 use feed::reading::Reading;
 use std::io::{Result, Write};
 
@@ -26,10 +25,9 @@ pub fn print<W: Write>(out: &mut W, reading: Reading, rows: &[u8], lines: &[u8])
         (W.contents out.new) (wall_of (lent reading.counters rows.now lines.now)
         (ending_at reading.stop reading.at))) }
 {
-    let c = reading.counters;
-    let stop = reading.stop;
     let mut text = space();
-    let n = page::write(c, rows, lines, page::ended(stop, reading.at), &mut text);
+    let ending = page::ended(reading.stop, reading.at);
+    let n = page::write(reading.counters, rows, lines, ending, &mut text);
     put(out, &text, n)
 }
 
@@ -37,6 +35,5 @@ pub fn print<W: Write>(out: &mut W, reading: Reading, rows: &[u8], lines: &[u8])
 fn put<W: Write>(out: &mut W, text: &[u8], n: usize) -> Result<()>
     ensures { OnOk result (Appends (W.contents out.old) (W.contents out.new) (take n text.now)) }
 {
-    let k = lesser(n, text.len());
-    out.write_all(&text[..k])
+    out.write_all(&text[..n.min(text.len())])
 }

@@ -25,8 +25,7 @@ fn of_tape(stop: Stop) -> u8
 {
     match stop {
         Stop::Ended => PLAYED,
-        Stop::NoKind => STOPS,
-        Stop::CutShort => STOPS,
+        Stop::NoKind | Stop::CutShort => STOPS,
     }
 }
 
@@ -45,10 +44,7 @@ fn of_rest(rest: Rest, stop: Stop) -> u8
 pub fn digit(rest: Rest, stop: Stop, written: bool) -> u8
     ensures { result ≡ Status.status_of rest stop written }
 {
-    if written {
-        return of_rest(rest, stop);
-    }
-    FAILED
+    if written { of_rest(rest, stop) } else { FAILED }
 }
 
 // What went wrong with the tape or with the wall, in a line.
@@ -69,9 +65,10 @@ fn unwritten<W: Write>(out: &mut W, written: bool) -> Result<()>
     ensures quiet { Status.unwritten written ≡ [] → W.contents out.new ≡ W.contents out.old }
 {
     if written {
-        return Ok(());
+        Ok(())
+    } else {
+        out.write_all(b"wall: the wall could not be written\n")
     }
-    out.write_all(b"wall: the wall could not be written\n")
 }
 
 // Writes the digit and a newline to the descriptor for it, if the program was started with an argument. Behind what a

@@ -10,9 +10,9 @@ returns-in-Ok g c s before room goes to =
     let r = c.args.tape.reading in
     let now = standing r (lent r.counters c.args.rows.now c.args.lines.now) c.args.piece.now in
     let few = held_few s before now to.stands (open_goes _ _ _ goes to.rest) in
-    let from : c.lesser-from.result ≡ r.held = omega (arith, c.lesser-from.ensures, few, room) in
+    let from : c.min-from.result ≡ r.held = omega (arith, c.min-from.ensures, few, room) in
     let given = c.in-Ok.ensures in
-    let front = behind c.lesser-from.result _ c.in-Ok.n c.args.piece.now c.read.new.buf (omega (arith, from, few, room)) given.bound.0 in
+    let front = behind c.min-from.result _ c.in-Ok.n c.args.piece.now c.read.new.buf (omega (arith, from, few, room)) given.bound.0 in
     record {
       more = take c.in-Ok.n c.read.new.buf;
       gave = given.bytes.0;
@@ -29,7 +29,7 @@ returns-in-Ok-eq0 g c s before room goes to =
     let r = c.args.tape.reading in
     let now = standing r (lent r.counters c.args.rows.now c.args.lines.now) c.args.piece.now in
     let few = held_few s before now to.stands (open_goes _ _ _ goes to.rest) in
-    let from : c.lesser-from.result ≡ r.held = omega (arith, c.lesser-from.ensures, few, room) in
+    let from : c.min-from.result ≡ r.held = omega (arith, c.min-from.ensures, few, room) in
     let given = c.in-Ok-eq0.ensures in
     let none : c.in-Ok-eq0.field-0 ≡ 0 = search rules in
     record {
@@ -46,7 +46,7 @@ returns-in-Err g c s before room goes to =
     let r = c.args.tape.reading in
     let now = standing r (lent r.counters c.args.rows.now c.args.lines.now) c.args.piece.now in
     let few = held_few s before now to.stands (open_goes _ _ _ goes to.rest) in
-    let from : c.lesser-from.result ≡ r.held = omega (arith, c.lesser-from.ensures, few, room) in
+    let from : c.min-from.result ≡ r.held = omega (arith, c.min-from.ensures, few, room) in
     record {
       more = [];
       gave = none_given _ _ c.in-Err.ensures.bytes;

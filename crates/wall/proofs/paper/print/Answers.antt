@@ -11,8 +11,8 @@ returns g c limit =
     let r = c.args.reading in
     let w = c.write-n.ensures in
     let text =
-    whole (lent r.counters c.args.rows.now c.args.lines.now) c.ended.result (ending_at r.stop r.at) c.space-text.result
-    c.write-n.new.out c.write-n.result w.types c.ended.ensures limit c.space-text.ensures w.bytes w.count in
+    whole (lent r.counters c.args.rows.now c.args.lines.now) c.ended-ending.result (ending_at r.stop r.at) c.space-text.result
+    c.write-n.new.out c.write-n.result w.types c.ended-ending.ensures limit c.space-text.ensures w.bytes w.count in
     subst
     (λ (bs : List ℕ). OnOk c.put.result (Appends (g.W.Write.contents c.args.out.now) (g.W.Write.contents c.put.new.out) bs)) text
     c.put.ensures
