@@ -4,7 +4,7 @@
 
 ghost use Rattle.std.specs.Prelude.{◌<◌};
 
-use kinds::{Kind, kind_of};
+use kinds::Kind;
 use numbers::put;
 use octets::run::paste;
 use records::{Record, Sale};
@@ -16,7 +16,7 @@ pub fn message<const N: usize>(r: Record) -> [u8; N] {
     let mut bytes = [0; N];
     put(&mut bytes, 0, r.time);
     put_byte(&mut bytes, 4, r.letter);
-    match kind_of(r.letter) {
+    match Kind::from(r.letter) {
         Kind::Event => put_byte(&mut bytes, 5, r.event),
         Kind::Trade | Kind::Cancel => trade(&mut bytes, r),
         Kind::Correction => correction(&mut bytes, r),
