@@ -31,7 +31,8 @@ use Rattle.counters.specs.Counting.{used_up, one_row_more, taken_by}
 use Rattle.sound.proofs.Sound.{sound_gives}
 use Rattle.keys.specs.Keys.{kind_in}
 use Rattle.table.specs.Table.{is_found, is_listed}
-use Rattle.table.specs.Working.{Verdict, judged_by}
+use Rattle.table.specs.declared.Verdict.{Verdict}
+use Rattle.table.specs.Working.{judged_by}
 use Rattle.table.proofs.Tables.{rows_full, judged_is, judged_row, judged_line, read_plain, Wanted, number_wanted}
 use Rattle.take.specs.Taking.{lines_by, reported_by, rows_by, index_of}
 use Rattle.show.specs.declared.RowShown.{RowShown}

@@ -43,14 +43,13 @@ fn judge_listing(c: Counters, rows: &[u8], lines: &[u8], l: Listing) -> Result<(
     if !is_sound(c, rows.len(), lines.len()) {
         return Err(Refusal::Unsound);
     }
-    let symbol = l.symbol;
-    if !(texts::is_text(&symbol) & (l.close <= PRICE_TOP)) {
+    if !(texts::is_text(&l.symbol) & (l.close <= PRICE_TOP)) {
         return Err(Refusal::ListingBroken);
     }
     if c.wanted != 1 {
         return Err(Refusal::ListingLate);
     }
-    if rows::find(rows, c.rows, symbol).is_some() {
+    if rows::find(rows, c.rows, l.symbol).is_some() {
         return Err(Refusal::ListedAlready);
     }
     if rows::limit(rows.len()) <= c.rows {
@@ -100,9 +99,10 @@ fn take_message(
         lines,
         used: c.lines,
     };
-    let named = judge(c.phase, rooms, kind, q)?;
-    take_lines(lines, c.lines, c.wanted as u32, kind, r, named.line);
-    take_rows(rows, edition, kind, r, named.row);
+    let verdict = judge(c.phase, rooms, kind, q);
+    verdict.answer?;
+    take_lines(lines, c.lines, c.wanted as u32, kind, r, verdict.line);
+    take_rows(rows, edition, kind, r, verdict.row);
     Ok(c.take(kind, r.event))
 }
 

@@ -9,7 +9,7 @@ ghost use Rattle.eights.specs.Low.{low};
 use numbers::number;
 
 // The number of the eight bytes from a place on, the first the lowest; bytes past the end are 0. So eight bytes are
-// compared at once. The test is one that a loop over places can work out beforehand.
+// compared at once.
 pub fn low8(s: &[u8], at: usize) -> u64
     ensures { result ≡ low (part s.now at 8) }
 {

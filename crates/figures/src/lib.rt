@@ -21,7 +21,8 @@ pub struct Figures {
     pub last: Option<LastTrade>,
 }
 
-// The high after a trade at a price, which may raise it only if the trade is marked.
+// The high after a trade at a price, which may raise it only if the trade is marked. This and `lowered` are two: each is
+// one line with a promise of its own.
 pub fn higher(h: Option<u32>, marked: bool, p: u32) -> Option<u32>
     ensures { result ≡ cond marked (raise h p) h }
 {

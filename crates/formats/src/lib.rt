@@ -22,7 +22,7 @@ pub fn letter_place(edition: Edition) -> usize
     }
 }
 
-// The length of a type's messages; 0 for what is no type of the edition.
+// The length of a type's messages; 0 for what is no type of the edition, as the definition `length_of` has it.
 pub fn length_of(edition: Edition, kind: Kind) -> usize
     ensures { result ≡ length_of edition kind }
 {

@@ -103,7 +103,7 @@ const SUMMARY_FORM: Form = Form {
     },
 };
 
-// The length of a type's messages; 0 for what is no type.
+// The length of a type's messages; 0 for what is no type, as the definition `length_of` has it.
 pub fn length_of(kind: Kind) -> usize
     ensures { result ≡ length_of kind }
 {

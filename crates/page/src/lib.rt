@@ -40,8 +40,7 @@ fn row_line(c: Counters, rows: &[u8], lines: &[u8], i: usize, out: &mut [u8]) ->
         (row_text (shown_row (lent c rows.now lines.now) (row_in rows.now i))) }
 {
     let kept = rows::get(rows, i);
-    let symbol = kept.listing.symbol;
-    let figures = walk::walk(lines, c.lines, symbol);
+    let figures = walk::walk(lines, c.lines, kept.listing.symbol);
     print::row(show::shown(kept, figures), out)
 }
 

@@ -9,7 +9,8 @@ use kinds::{Kind, is_event};
 // The phase that event C, the last, begins.
 pub const LAST_PHASE: u64 = 6;
 
-// The phase that an event begins: 1 to 6 for O S Q M E C, 0 for any other byte.
+// The phase that an event begins: 1 to 6 for O S Q M E C, 0 for any other byte. A number, since the counters hold
+// whatever number a caller hands them.
 pub fn phase_of(event: u8) -> u64
     ensures { result ≡ Phases.phase_of event }
 {

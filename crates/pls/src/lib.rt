@@ -57,7 +57,7 @@ pub const DIGITS: usize = 1;
 
 pub const DECIMALS: usize = 4;
 
-// The length of a type's messages; 0 for what is no type of this edition.
+// The length of a type's messages; 0 for what is no type of this edition, as the definition `length_of` has it.
 pub fn length_of(kind: Kind) -> usize
     ensures { result ≡ length_of kind }
 {

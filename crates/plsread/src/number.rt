@@ -17,6 +17,7 @@ pub(crate) fn read_number(s: &[u8], least: usize) -> Option<u64>
 {
     let from = spaces(s);
     let mut x: u64 = 0;
+    // By place: with `for digit in &s[from..]` reading a T took some ten instructions more.
     for i in from..s.len() {
         if !s[i].is_ascii_digit() {
             return None;

@@ -29,8 +29,7 @@ pub fn row(shown: RowShown, out: &mut [u8]) -> usize
     ensures bytes { out.new ≡ sets out.old 0 (row_text shown) }
     ensures count { result ≡ length (row_text shown) }
 {
-    let symbol = shown.symbol;
-    let a = symbols::put_symbol(out, 0, symbol);
+    let a = symbols::put_symbol(out, 0, shown.symbol);
     let b = columns::put_prices(out, a, shown.last, shown.high, shown.low);
     let c = columns::put_net(out, b, shown.net);
     let d = columns::put_counts(out, c, shown.volume, shown.count, shown.reported);
@@ -42,11 +41,7 @@ pub fn row(shown: RowShown, out: &mut [u8]) -> usize
 fn refused(taken: u64, wanted: u64) -> u64
     ensures { result ≡ wanted - 1 - taken }
 {
-    if taken < wanted {
-        wanted - 1 - taken
-    } else {
-        0
-    }
+    wanted.saturating_sub(1).saturating_sub(taken)
 }
 
 // The line that closes the wall.

@@ -5,7 +5,8 @@ ghost use Rattle.print.specs.Put.{Put};
 
 use octets::run::paste;
 
-// How many bytes are left when the spaces at the end are left out.
+// How many bytes are left when the spaces at the end are left out. By place: with `rposition` it stays open that the
+// result is this length.
 fn unpadded(s: &[u8]) -> usize
     ensures { result ≡ length (symbol_text s.now) }
 {

@@ -53,7 +53,7 @@ pub fn letter(b: &[u8]) -> u8
     byte(b, LETTER)
 }
 
-// The same fields, stored.
+// Stores control, price, size and condition, from a place in a record on.
 fn put_sale(out: &mut [u8], at: usize, s: Sale)
     requires { at ≤ W.record_length }
     ensures { out.new ≡ sets out.old at (W.sale_bytes s) }

@@ -6,16 +6,15 @@ use mathlib.Core.Bool.{Bool, true, false, cond, true≢false}
 use mathlib.Core.List.{List}
 use Prim.Native.Nat.{ℕ}
 use native.Mathlib.Omega.{arith}
+use borrow.Author.Tests.{eq-eqb, ne_eqb}
 use lib.Dec.{leb}
 use lib.ListN.{length, get_or}
 use Rattle.answers.specs.declared.Refusal.{Refusal}
-use Rattle.answers.specs.Answers.{answer_of}
+use Rattle.answers.specs.Answers.{Answer, number_of, answer_of}
 use Rattle.answers.proofs.Promise.{refused_number}
 use Rattle.message.specs.Reader.{reading_of}
-use Rattle.rows.specs.declared.Listing.{Listing}
-use Rattle.rows.specs.Rows.{listing_of}
 use Rattle.kinds.specs.declared.Kind.{Kind}
-use Rattle.kinds.specs.Kinds.{is_event, names_old, makes_new}
+use Rattle.kinds.specs.Kinds.{is_event, makes_new}
 use Rattle.phases.specs.Phases.{due}
 use Rattle.records.specs.declared.Record.{Record}
 use Rattle.lines.specs.declared.Line.{Line}
@@ -24,7 +23,8 @@ use Rattle.cells.proofs.Slabs.{found_below}
 use Rattle.lines.proofs.Slabs.{used_lines_length, line_in_lem}
 use Rattle.keys.specs.Keys.{old_key, new_key, matches}
 use Rattle.table.specs.Table.{Ledger, Basis, ledger_in}
-use Rattle.table.specs.Working.{Verdict, plainly, naming, told, named_by, made_by, trade_by, listed_by, due_by, judged_by}
+use Rattle.table.specs.Working.{plainly, naming, named_by, made_by, then_made, listed_by, due_by, judged_by}
+use Rattle.table.specs.declared.Verdict.{Verdict}
 use Rattle.table.proofs.Tables.{lines_full}
 
 -- a search for a key that was worked out
@@ -33,29 +33,18 @@ found_for ls key key' f f' e k g = ap (λ (x : List ℕ). line_with x ls) (sym k
 
 -- ---- the line that is named
 
-module _ (kind : Kind) (r : Record) (m : List ℕ) (used : ℕ) where
-  pub named_not : names_old kind ≡ false → naming 0 ≡ named_by (ledger_in m used) kind r
-  unfolding named_by
-  named_not n = rw n
+module _ (r : Record) (m : List ℕ) (used i : ℕ) (e : line_with (old_key r) (used_lines m used) ≡ Some i) where
+  there : get_or (used_lines m used) i no_line ≡ line_in m i
+  there = line_in_lem m used i (omega (arith, found_below (bears (old_key r)) (used_lines m used) i e, used_lines_length m used))
 
-  module _ (n : names_old kind ≡ true) where
-    pub named_none : line_with (old_key r) (used_lines m used) ≡ None → plainly (answer_of 8) ≡ named_by (ledger_in m used) kind r
+  module _ (l : Line) (g : l ≡ line_in m i) where
+    pub named_dead : l.live ≡ false → named_by (ledger_in m used) r ≡ plainly (answer_of 9)
     unfolding named_by
-    named_none e = rw (n, e)
+    named_dead h = rw (e, there, ← g, h)
 
-    module _ (i : ℕ) (e : line_with (old_key r) (used_lines m used) ≡ Some i) where
-      there : get_or (used_lines m used) i no_line ≡ line_in m i
-      there = line_in_lem m used i (omega (arith, found_below (bears (old_key r)) (used_lines m used) i e, used_lines_length m used))
-
-      module _ (l : Line) (g : l ≡ line_in m i) where
-        pub named_dead : l.live ≡ false → plainly (answer_of 9) ≡ named_by (ledger_in m used) kind r
-        unfolding named_by
-        named_dead h = rw (n, e, there, ← g, h)
-
-        pub named_live : l.live ≡ true → (b : Bool) → b ≡ matches r l
-            → cond b (naming i) (plainly (answer_of 10)) ≡ named_by (ledger_in m used) kind r
-        unfolding named_by matches
-        named_live h b f = rw (n, e, there, ← g, h, ← f)
+    pub named_live : l.live ≡ true → (b : Bool) → b ≡ matches r l → named_by (ledger_in m used) r ≡ cond b (naming i) (plainly (answer_of 10))
+    unfolding named_by matches
+    named_live h b f = rw (e, there, ← g, h, ← f)
 
 -- ---- the line that is made
 
@@ -74,39 +63,15 @@ module _ (kind : Kind) (r : Record) (m : List ℕ) (used : ℕ) (n : makes_new k
   made_there None e t = absurd (true≢false (sym t))
   made_there (Some i) e t = made_found i e
 
--- ---- from what is named to what is made, and to the row
+-- ---- from what is named to what is made
 
-module _ (l : Ledger) (kind : Kind) (r : Record) where
-  -- a refusal of what is named
-  pub old_refused : (f : Refusal) → plainly (Err f) ≡ named_by l kind r → plainly (Err f) ≡ trade_by l kind r
-  unfolding trade_by
-  old_refused f e = rw (← e, refused_number f)
+module _ (l : Ledger) (kind : Kind) (r : Record) (v : Verdict) (e : v ≡ named_by l r) where
+  pub refused_there : (number_of v.answer ≡ 0 → ⊥) → v ≡ then_made l kind r (named_by l r)
+  refused_there h = sym (rw (← e, ne_eqb _ _ h))
 
-  -- a refusal of what is made
-  pub new_refused : (i : ℕ) (f : Refusal) → naming i ≡ named_by l kind r → Err f ≡ answer_of (made_by l kind r)
-      → plainly (Err f) ≡ trade_by l kind r
-  unfolding trade_by
-  new_refused i f e g = rw (← e, ← g, refused_number f)
-
-  -- neither
-  pub none_refused : (i : ℕ) → naming i ≡ named_by l kind r → Ok tt ≡ answer_of (made_by l kind r) → naming i ≡ trade_by l kind r
-  unfolding trade_by
-  none_refused i e g = rw (← e, ← g)
-
-  module _ (sheet : List Listing) where
-    pub row_none : listing_of r.symbol sheet ≡ None → plainly (answer_of 7) ≡ listed_by sheet l kind r
-    unfolding listed_by
-    row_none h = rw h
-
-    module _ (row : ℕ) (h : listing_of r.symbol sheet ≡ Some row) where
-      pub row_refused : (f : Refusal) → plainly (Err f) ≡ trade_by l kind r → plainly (Err f) ≡ listed_by sheet l kind r
-      unfolding listed_by
-      row_refused f e = rw (h, ← e, refused_number f)
-
-      pub row_done : (i : ℕ) → naming i ≡ trade_by l kind r
-          → told (Ok (record { row = row; line = i })) ≡ listed_by sheet l kind r
-      unfolding listed_by
-      row_done i e = rw (h, ← e)
+  pub done_there : number_of v.answer ≡ 0 → (a : Answer) → a ≡ answer_of (made_by l kind r)
+      → record { answer = a; row = 0; line = v.line } ≡ then_made l kind r (named_by l r)
+  done_there h a f = rw (← e, eq-eqb _ _ h, f)
 
 -- ---- whether it is due
 

@@ -21,6 +21,7 @@ use Rattle.message.proofs.Said.{Said, unshaped, unkept, obeyed, said}
 use Rattle.kinds.specs.declared.Kind.{Kind}
 use Rattle.kinds.specs.Kinds.{is_event, names_old, makes_new}
 use Rattle.kinds.proofs.Laws.{event_names, event_makes, names_event}
+use Rattle.rows.specs.declared.Listing.{Listing}
 use Rattle.rows.specs.declared.Row.{Row}
 use Rattle.lines.specs.Lines.{line_limit, used_lines, no_line}
 use Rattle.rows.specs.Rows.{row_limit, used_rows, used_sheet, listing_of}
@@ -29,8 +30,9 @@ use Rattle.rows.proofs.Slabs.{used_rows_length}
 use Rattle.phases.specs.Phases.{due}
 use Rattle.counters.specs.Counting.{last_number}
 use Rattle.keys.specs.Keys.{kind_in, old_key, new_key, matches}
+use Rattle.table.specs.declared.Verdict.{Verdict}
 use Rattle.table.specs.Table.{Ledger, Basis, is_found, dead_at, differs_at, is_listed, number_table, content_table}
-use Rattle.table.specs.Working.{Verdict, plainly, naming, named_at, named_by, made_at, made_by, then_made, trade_by, on_row, listed_at, listed_by}
+use Rattle.table.specs.Working.{plainly, naming, named_at, named_by, made_at, made_by, then_made, trade_by, on_row, listed_at, listed_by}
 use Rattle.table.specs.Working.{due_by, judged_by}
 
 -- ---- today's table: 17, and then numbers that rise
@@ -108,7 +110,7 @@ module _ (l : Ledger) (kind : Kind) (r : Record) where
       made = ap answer_of made_is
 
       go : (t : Bool) (f : Option ℕ)
-          → (then_made l kind r (cond t (named_at r l.lines f) (naming 0))).answer
+          → (cond t (then_made l kind r (named_at r l.lines f)) (plainly (answer_of (made_by l kind r)))).answer
           ≡ answer_of (given (spends 8 (t && not (is_found f)) ∷ spends 9 (t && dead_at l.lines f) ∷ spends 10
           (t && differs_at r l.lines f) ∷ made_table l kind r)).number
       go false None = made
@@ -138,7 +140,7 @@ module _ (l : Ledger) (kind : Kind) (r : Record) where
           named live agrees = then_made l kind r (cond live (cond agrees (naming i) (plainly (answer_of 10))) (plainly (answer_of 9)))
 
           at : (live agrees : Bool) → number_of (named live agrees).answer ≡ 0 → l.search (old_key r) ≡ Some (named live agrees).line
-          at true true z = rw z f
+          at true true z = f
           at true false z = absurd (omega arith)
           at false agrees z = absurd (omega arith)
 
@@ -222,8 +224,7 @@ module _ (b : Basis) (q : Reading) where
   pub judged_row : number_of it.answer ≡ 0 → is_event kind ≡ false → listing_of q.found.symbol b.sheet ≡ Some it.row
   judged_row z e =
       let d = judged_on z e in
-      let t : number_of (trade_by b.ledger kind q.found).answer ≡ 0 = rw d.2 at z in
-      rw (d.2, t, d.1)
+      d.1 ∙ ap (λ (v : Verdict). Some v.row) (sym d.2)
 
   -- the line that a taken message names is the one that the search for its key finds
   pub judged_line : number_of it.answer ≡ 0 → names_old kind ≡ true → b.ledger.search (old_key q.found) ≡ Some it.line

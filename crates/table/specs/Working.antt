@@ -1,7 +1,7 @@
 -- How the program works the table: branch by branch, each test once, keeping what acting on it needs.
 -- `proofs/Tables` shows that this is the table.
 -- Assumes nothing.
-use Rattle.std.specs.Prelude.{ℕ, List, Bool, cond, eqb, leb, length, get_or, None, Option, Some, Result, Ok, Err}
+use Rattle.std.specs.Prelude.{ℕ, List, Bool, cond, eqb, leb, length, get_or, None, Option, Some}
 use Rattle.answers.specs.Answers.{Answer, number_of, answer_of}
 use Rattle.records.specs.declared.Record.{Record}
 use Rattle.message.specs.Reader.{Reading}
@@ -13,15 +13,8 @@ use Rattle.rows.specs.declared.Listing.{Listing}
 use Rattle.rows.specs.Rows.{listing_of}
 use Rattle.phases.specs.Phases.{due}
 use Rattle.keys.specs.Keys.{old_key, new_key, matches}
-use Rattle.answers.specs.declared.Refusal.{Refusal}
-use Rattle.table.specs.declared.Named.{Named}
+use Rattle.table.specs.declared.Verdict.{Verdict}
 use Rattle.table.specs.Table.{Ledger, Basis}
-
--- what the table gives, and what acting on it needs: the row of the message's symbol and the line that it names
-pub record Verdict : Type 0 where
-  pub answer : Answer
-  pub row : ℕ
-  pub line : ℕ
 
 -- an answer that needs no row and no line
 abbrev pub plainly : Answer → Verdict
@@ -30,19 +23,6 @@ plainly a = record { answer = a; row = 0; line = 0 }
 abbrev pub naming : ℕ → Verdict
 naming i = record { answer = answer_of 0; row = 0; line = i }
 
--- a refusal needs neither; else the line alone was told, or both were
-abbrev pub line_told : Result ℕ Refusal → Verdict
-line_told (Ok line) = naming line
-line_told (Err refusal) = plainly (Err refusal)
-
-abbrev pub told : Result Named Refusal → Verdict
-told (Ok n) = record { answer = answer_of 0; row = n.row; line = n.line }
-told (Err refusal) = plainly (Err refusal)
-
--- a place that is kept only where the answer is no refusal
-abbrev pub unrefused : Answer → ℕ → ℕ
-unrefused a i = cond (eqb (number_of a) 0) i 0
-
 -- ---- 8, 9, 10, or the line that is named
 
 abbrev pub named_at : Record → List Line → Option ℕ → Verdict
@@ -50,8 +30,8 @@ named_at r ls None = plainly (answer_of 8)
 named_at r ls (Some i) =
     cond (get_or ls i no_line).live (cond (matches r (get_or ls i no_line)) (naming i) (plainly (answer_of 10))) (plainly (answer_of 9))
 
-unfoldable pub named_by : Ledger → Kind → Record → Verdict
-named_by l kind r = cond (names_old kind) (named_at r l.lines (l.search (old_key r))) (naming 0)
+unfoldable pub named_by : Ledger → Record → Verdict
+named_by l r = named_at r l.lines (l.search (old_key r))
 
 -- ---- 11, 12 or 0
 
@@ -64,19 +44,17 @@ made_by l kind r = cond (makes_new kind) (made_at (leb l.limit (length l.lines))
 
 -- ---- 8 to 12 or 0
 
-abbrev pub with_line : Verdict → Answer → Verdict
-with_line v a = record { answer = a; row = 0; line = unrefused a v.line }
-
 abbrev pub then_made : Ledger → Kind → Record → Verdict → Verdict
-then_made l kind r v = cond (eqb (number_of v.answer) 0) (with_line v (answer_of (made_by l kind r))) v
+then_made l kind r v =
+    cond (eqb (number_of v.answer) 0) (record { answer = answer_of (made_by l kind r); row = 0; line = v.line }) v
 
 unfoldable pub trade_by : Ledger → Kind → Record → Verdict
-trade_by l kind r = then_made l kind r (named_by l kind r)
+trade_by l kind r = cond (names_old kind) (then_made l kind r (named_by l r)) (plainly (answer_of (made_by l kind r)))
 
 -- ---- 7 to 12 or 0
 
 abbrev pub on_row : ℕ → Verdict → Verdict
-on_row i v = record { answer = v.answer; row = unrefused v.answer i; line = v.line }
+on_row i v = record { answer = v.answer; row = i; line = v.line }
 
 abbrev pub listed_at : Ledger → Kind → Record → Option ℕ → Verdict
 listed_at l kind r None = plainly (answer_of 7)

@@ -25,9 +25,12 @@ pub struct Rooms<'a> {
     pub used: usize,
 }
 
-// What acting on a message needs: the row of its symbol and the line that it names; 0 where it needs none.
+// What the table gives, and what acting on it needs: the row of the message's symbol and the line that it names; 0
+// where there is none. Both stand beside the answer and not in its place, since they are told with a refusal too, as far
+// as the branches came (`Working.listed_by`).
 #[derive(Clone, Copy)]
-pub struct Named {
+pub struct Verdict {
+    pub answer: Result<(), Refusal>,
     pub row: usize,
     pub line: usize,
 }
@@ -48,24 +51,36 @@ pub fn judge_number(wanted: u64, number: u64) -> Result<(), Refusal>
     Ok(())
 }
 
-// 8, 9, 10, or the line that X and C name. Another type names none.
-fn judge_old(rooms: Rooms, kind: Kind, r: Record) -> Result<usize, Refusal>
-    ensures { Working.line_told result ≡ Working.named_by (ledger_in rooms.entry.lines.now rooms.entry.used) kind r }
+// An answer that needs no row and no line.
+fn plainly(answer: Result<(), Refusal>) -> Verdict
+    ensures { result ≡ Working.plainly answer }
 {
-    if !names_old(kind) {
-        return Ok(0);
+    Verdict {
+        answer,
+        row: 0,
+        line: 0,
     }
-    let Some(i) = lines::find(rooms.lines, rooms.used, old_key(r)) else {
-        return Err(Refusal::NoLine);
+}
+
+// 8, 9, 10, or the line that X and C name.
+fn judge_named(rooms: Rooms, r: Record) -> Verdict
+    ensures { result ≡ Working.named_by (ledger_in rooms.entry.lines.now rooms.entry.used) r }
+{
+    let Some(line) = lines::find(rooms.lines, rooms.used, old_key(r)) else {
+        return plainly(Err(Refusal::NoLine));
     };
-    let l = lines::get(rooms.lines, i);
+    let l = lines::get(rooms.lines, line);
     if !l.live {
-        return Err(Refusal::LineDead);
+        return plainly(Err(Refusal::LineDead));
     }
     if !is_match(r, l) {
-        return Err(Refusal::LineDiffers);
+        return plainly(Err(Refusal::LineDiffers));
     }
-    Ok(i)
+    Verdict {
+        answer: Ok(()),
+        row: 0,
+        line,
+    }
 }
 
 // 11 or 12 of a line that T and C make. Another type makes none.
@@ -85,45 +100,56 @@ fn judge_new(rooms: Rooms, kind: Kind, r: Record) -> Result<(), Refusal>
 }
 
 // 8 to 12, or the line that X and C name.
-fn judge_trade(rooms: Rooms, kind: Kind, r: Record) -> Result<usize, Refusal>
-    ensures { Working.line_told result ≡ Working.trade_by (ledger_in rooms.entry.lines.now rooms.entry.used) kind r }
+fn judge_trade(rooms: Rooms, kind: Kind, r: Record) -> Verdict
+    ensures { result
+        ≡ Working.trade_by (ledger_in rooms.entry.lines.now rooms.entry.used) kind r }
 {
-    let line = judge_old(rooms, kind, r)?;
-    judge_new(rooms, kind, r)?;
-    Ok(line)
+    if !names_old(kind) {
+        return plainly(judge_new(rooms, kind, r));
+    }
+    let named = judge_named(rooms, r);
+    if named.answer.is_err() {
+        return named;
+    }
+    Verdict {
+        answer: judge_new(rooms, kind, r),
+        row: 0,
+        line: named.line,
+    }
 }
 
 // 7 to 12, or the row of the message's symbol and the line that it names.
-fn judge_listed(rooms: Rooms, kind: Kind, r: Record) -> Result<Named, Refusal>
-    ensures { Working.told result ≡ Working.listed_by
+fn judge_listed(rooms: Rooms, kind: Kind, r: Record) -> Verdict
+    ensures { result ≡ Working.listed_by
         (used_sheet rooms.entry.rows.now rooms.entry.listed)
         (ledger_in rooms.entry.lines.now rooms.entry.used) kind r }
 {
-    let symbol = r.symbol;
-    let Some(row) = rows::find(rooms.rows, rooms.listed, symbol) else {
-        return Err(Refusal::NotListed);
+    let Some(row) = rows::find(rooms.rows, rooms.listed, r.symbol) else {
+        return plainly(Err(Refusal::NotListed));
     };
-    let line = judge_trade(rooms, kind, r)?;
-    Ok(Named { row, line })
+    let traded = judge_trade(rooms, kind, r);
+    Verdict {
+        answer: traded.answer,
+        row,
+        line: traded.line,
+    }
 }
 
 // What the table gives a reading of a type: what refused it, or 6 to 12, or what acting on it needs.
-pub fn judge(
-    phase: u64,
-    rooms: Rooms,
-    kind: Kind,
-    q: Result<Record, Refusal>,
-) -> Result<Named, Refusal>
-    ensures { Working.told result ≡ Working.judged_by
+pub fn judge(phase: u64, rooms: Rooms, kind: Kind, q: Result<Record, Refusal>) -> Verdict
+    ensures { result ≡ Working.judged_by
         (basis_in phase rooms.entry.rows.now rooms.entry.listed
         rooms.entry.lines.now rooms.entry.used) kind (reading_of q) }
 {
-    let r = q?;
+    let r = match q {
+        Ok(r) => r,
+        Err(refusal) => return plainly(Err(refusal)),
+    };
     if !is_due(phase, kind, r.event) {
-        return Err(Refusal::NotDue);
+        return plainly(Err(Refusal::NotDue));
     }
     if is_event(kind) {
-        return Ok(Named { row: 0, line: 0 });
+        return plainly(Ok(()));
     }
     judge_listed(rooms, kind, r)
 }

@@ -31,7 +31,8 @@ const CLOSE_AT: usize = KIND + SYMBOL;
 
 const MESSAGE_AT: usize = KIND + NUMBER;
 
-// How many bytes follow a kind byte: symbol and close, or number and message; 0 where the byte is no kind.
+// How many bytes follow a kind byte: symbol and close, or number and message; 0 where the byte is no kind, as
+// the tape's theorems have it.
 fn body_length(letter: u8) -> usize
     ensures { result ≡ body_length letter }
 {

@@ -61,7 +61,7 @@ fn mark<T>(figure: &Option<T>) -> u64
 fn price_word(price: Option<u32>) -> u64
     ensures { result ≡ W.figure_word price }
 {
-    price.map_or(0, |x| u64::from(x))
+    price.map_or(0, u64::from)
 }
 
 // A signed number's 64 bits: below zero, 2 to the 64 less its size.
@@ -86,9 +86,8 @@ fn net_word(net: Option<i64>) -> u64
 pub fn put_row(w: &mut [u64; ROW], r: RowShown)
     ensures { w.new ≡ W.row_words r }
 {
-    let symbol = r.symbol;
     *w = [
-        number::<u64>(&symbol, 0),
+        number::<u64>(&r.symbol, 0),
         u64::from(r.close),
         mark(&r.last),
         price_word(r.last),

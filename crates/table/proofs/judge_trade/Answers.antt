@@ -1,23 +1,29 @@
 -- `table::judge_trade` meets its contract.
 -- Assumes nothing.
-use Rattle.std.specs.Prelude.{Err}
+use Rattle.std.specs.Prelude.{is_err}
 use mathlib.Core.Path.{◌≡◌, ap, sym, ◌∙◌}
+use mathlib.Core.Bool.{true, false}
 use borrow.Author.Rules.{rules}
-use Rattle.table.specs.Working.{line_told}
-use Rattle.table.proofs.Laws.{old_refused, new_refused, none_refused}
+use Rattle.answers.proofs.Promise.{done_number, not_done}
+use Rattle.table.specs.Working.{plainly, trade_by}
+use Rattle.table.proofs.Laws.{refused_there, done_there}
 use Rattle.table.proofs.judge_trade.Goals as goal
 
-pub returns-in_err-line : goal.returns-in_err-line
-returns-in_err-line c =
-    let given : c.from_residual.result ≡ Err c.in_err-line.field-0.0 = search rules in
-    ap line_told given ∙ old_refused _ _ _ _ (ap line_told (sym c.in_err-line.was) ∙ c.judge_old.ensures)
+pub returns-then-not-names_old : goal.returns-then-not-names_old
+unfolding trade_by
+returns-then-not-names_old c = simp (sym c.names_old.ensures ∙ c.if-not-names_old.true)
+    (c.plainly.ensures ∙ ap plainly c.judge_new.ensures)
 
-pub returns-in_err-judge_new : goal.returns-in_err-judge_new
-returns-in_err-judge_new c =
-    let given : c.from_residual-in_err-judge_new.result ≡ Err c.in_err-judge_new.field-0.0 = search rules in
-    ap line_told given ∙ new_refused _ _ _ _ _ (ap line_told (sym c.in_ok-line.was) ∙ c.judge_old.ensures)
-    (sym c.in_err-judge_new.was ∙ c.judge_new.ensures)
+pub returns-then-is_err : goal.returns-then-is_err
+unfolding trade_by
+returns-then-is_err c =
+    let refused : is_err c.judge_named-named.result.answer ≡ true = search rules in
+    simp (sym c.names_old.ensures ∙ c.if-not-names_old.false)
+    (refused_there _ _ _ _ c.judge_named-named.ensures (not_done _ refused))
 
 pub returns : goal.returns
-returns c = none_refused _ _ _ _ (ap line_told (sym c.in_ok-line.was) ∙ c.judge_old.ensures)
-    (sym c.in_ok-judge_new.was ∙ c.judge_new.ensures)
+unfolding trade_by
+returns c =
+    let done : is_err c.judge_named-named.result.answer ≡ false = search rules in
+    simp (sym c.names_old.ensures ∙ c.if-not-names_old.false)
+    (done_there _ _ _ _ c.judge_named-named.ensures (done_number _ done) _ c.judge_new-2.ensures)
