@@ -8,4 +8,9 @@ use Rattle.numbers.proofs.U16Unsigned.first.Goals as goal
 
 pub returns-in-Some : goal.returns-in-Some
 returns-in-Some c = let s = c.args.s.now in
-    c.from_be_bytes.ensures ∙ ap (from_be_bytes w16) (c.in-Some.ensures.cases.same ∙ part_inside s s 0 2 refl c.requires) ∙ read_two s 0
+    let run = c.in-Some.ensures.cases in
+    c.from_be_bytes.ensures ∙ ap (from_be_bytes w16) (run.same ∙ part_inside s s 0 2 refl run.enough) ∙ read_two s 0
+
+pub returns-in-None : goal.returns-in-None
+returns-in-None c =
+    c.from_be_bytes-in-None.ensures ∙ ap (from_be_bytes w16) c.bytes.ensures ∙ read_two c.args.s.now 0
