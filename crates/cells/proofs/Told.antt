@@ -1,19 +1,16 @@
 -- A cell that is cut out of the room, and runs compared as slices.
 -- Assumes nothing.
 use Prim.Native.Nat.{ℕ, suc, ◌+◌, ◌-◌, ◌*◌, ◌/◌, ◌≤◌, ◌<◌}
-use mathlib.Core.Path.{◌≡◌, refl, ap, sym, ◌∙◌}
+use mathlib.Core.Path.{◌≡◌, refl, ap}
 use mathlib.Core.List.{List, [], ◌∷◌}
 use mathlib.Core.Bool.{Bool, ◌&&◌}
 use native.Mathlib.Nat.{suc-mul, mul-le-mul_right}
 use native.Mathlib.Omega.{arith}
-use denote.Ref.{Bor}
 use lib.Dec.{eqb}
 use lib.ListN.{length, take, drop}
 use lib.Pointwise.{pointwise}
 use Rattle.std.proofs.Math.Nat.{div-mul-le_self}
-use Rattle.octets.specs.Run.{part, same, Bytes}
-use Rattle.octets.proofs.Bytes.{part_bytes}
-use Rattle.octets.proofs.Laws.{part_length}
+use Rattle.octets.specs.Run.{part, same}
 use Rattle.octets.proofs.Trips.{lent}
 use Rattle.cells.specs.Room.{cell_limit}
 
