@@ -4,7 +4,7 @@
 ghost use Rattle.std.specs.Prelude.{◌≡◌, ◌+◌, ◌*◌, ◌≤◌, length};
 ghost use Rattle.std.proofs.lemmas.List.Edits.{sets};
 ghost use Rattle.lines.specs.Cell.{line_cap, line_cell};
-ghost use Rattle.lines.specs.Lines.{line_from, line_bytes, mark, no_line, line_limit, used_lines};
+ghost use Rattle.lines.specs.Lines.{line_from, line_bytes, no_line, line_limit, used_lines};
 ghost use Rattle.lines.specs.Lines.{line_with, line_in, with_line, with_dead};
 ghost use Rattle.lines.specs.Alone.{line_alone};
 ghost use borrow.Author.Rules.{rules};
@@ -37,19 +37,19 @@ pub const CELL: usize = 40;
 
 pub const SYMBOL: usize = KEY;
 
-const PRICE: usize = 19;
+pub const PRICE: usize = 19;
 
-const SIZE: usize = 23;
+pub const SIZE: usize = 23;
 
-const CONDITION: usize = 27;
+pub const CONDITION: usize = 27;
 
-const PLACE: usize = 31;
+pub const PLACE: usize = 31;
 
 const TIME: usize = 35;
 
 pub const LIVE: usize = 39;
 
-// How many lines a room of that many bytes holds.
+// How many lines a room of that many bytes holds. A name that theorems and other crates cite; `cells` does the work.
 pub fn limit(room: usize) -> usize
     ensures { result ≡ line_limit room }
 {
@@ -108,7 +108,7 @@ impl Cell for Line {
             condition: bytes(cell, CONDITION),
             place: numbers::number(cell, PLACE),
             time: numbers::number(cell, TIME),
-            live: cell[LIVE] == 1,
+            live: single::byte(cell, LIVE) == 1,
         }
     }
 
@@ -128,6 +128,7 @@ impl Cell for Line {
 }
 
 // Line i of the room; where there is none, a dead line of zeros.
+// A name that theorems and other crates cite; `cells` does the work.
 #[tactic(auto, unfolding(crate::specs::Lines::line_in))]
 pub fn get(lines: &[u8], i: usize) -> Line
     ensures { result ≡ line_in lines.now i }

@@ -10,7 +10,8 @@ ghost use Rattle.rows.specs.Rows.{row_limit, used_sheet, listing_of, row_in};
 ghost use Rattle.rows.specs.Rows.{with_row, with_report, with_summary};
 ghost use borrow.Author.Rules.{rules};
 
-use cells::{Cell, place};
+use bounds::lesser;
+use cells::{Cell, cut, place};
 use octets::run::bytes;
 
 // What is listed: a symbol and its adjusted previous close. A close of 0 is unknown.
@@ -54,19 +55,28 @@ const REPORTED: usize = 21;
 
 const VOLUME: usize = 22;
 
-// How many rows a room of that many bytes holds.
+// How many rows a room of that many bytes holds. A name that theorems and other crates cite; `cells` does the work.
 pub fn limit(room: usize) -> usize
     ensures { result ≡ row_limit room }
 {
     cells::limit::<Row>(room)
 }
 
-// Which used row is the first of the symbol. The eight bytes of a symbol are compared as one number.
+// Which used row is the first of the symbol. How many are used stands beside the room and is not its length: C lends
+// all of the room, and the counters say how much of it is used. The eight bytes of a symbol are compared as one number.
+// A `for`: `chunks_exact` with `position` takes an instruction more for each row passed over, and with `find` over
+// `0..n` it stays open that the closure may be called.
 pub fn find(rows: &[u8], used: usize, symbol: [u8; 8]) -> Option<usize>
     ensures { result ≡ listing_of symbol (used_sheet rows.now used) }
 {
+    let n = lesser(used, limit(rows.len()));
     let name = eights::low8(&symbol, 0);
-    cells::find::<Row, _>(rows, used, |cell| eights::low8(cell, 0) == name)
+    for i in 0..n {
+        if eights::low8(cut::<Row>(rows, i), 0) == name {
+            return Some(i);
+        }
+    }
+    None
 }
 
 // What a cell keeps of its symbol's J.
@@ -147,6 +157,7 @@ impl Cell for Row {
 }
 
 // Row i of the room; where there is none, a row of zeros and absent figures.
+// A name that theorems and other crates cite; `cells` does the work.
 #[tactic(auto, unfolding(crate::specs::Rows::row_in))]
 pub fn get(rows: &[u8], i: usize) -> Row
     ensures { result ≡ row_in rows.now i }

@@ -29,7 +29,7 @@ loop-i-preserved c =
     let l = c.loop-i in
     let m = c.args.lines.now in
     let bytes : Bytes m = λ i. (c.type_inv.lines i).fits in
-    let cut = c.cut-cell.ensures.bytes in
+    let cut = c.cut-cell.ensures.inside (omega (arith, c.loop-i-test.true, c.lesser-n.ensures, c.limit.ensures)) in
     elim c.if-is_counted.branch [
       | then-is_counted w ↦
           let more = w.with_line-t.ensures.one_more in
