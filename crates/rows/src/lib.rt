@@ -64,8 +64,7 @@ pub fn limit(room: usize) -> usize
 
 // Which used row is the first of the symbol. How many are used stands beside the room and is not its length: C lends
 // all of the room, and the counters say how much of it is used. The eight bytes of a symbol are compared as one number.
-// A `for`: `chunks_exact` with `position` takes an instruction more for each row passed over, and with `find` over
-// `0..n` it stays open that the closure may be called.
+// A `for`: `chunks_exact` with `position` takes an instruction more for each row passed over.
 pub fn find(rows: &[u8], used: usize, symbol: [u8; 8]) -> Option<usize>
     ensures { result ≡ listing_of symbol (used_sheet rows.now used) }
 {
