@@ -28,7 +28,8 @@ fn main(rt: HostRuntime) -> Result<()> {
     script::play(&mut rt.stdout(), &text[..n], &mut day)
 }
 
-// Reads until the room is full or the input ends, and returns how many bytes stand at the room's start.
+// Reads until the room is full or the input ends, and returns how many bytes stand at the room's start. How often a
+// reader has to be asked is known only as it is asked, so no range counts it.
 fn filled<R: Read>(input: &mut R, room: &mut [u8]) -> Result<usize>
     ensures within { IfOk result (λ n. n ≤ length room.new) }
     ensures bytes { IfOk result (λ n. Consumes (R.remaining input.old) (R.remaining input.new)

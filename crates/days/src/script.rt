@@ -31,6 +31,8 @@ pub fn play<W: Write>(out: &mut W, text: &[u8], day: &mut Day<'_>) -> Result<()>
     Ok(())
 }
 
+// One line. Its first letter is the script's own, and each does something else: a `match` says so more plainly than a
+// table of functions.
 fn line<W: Write>(out: &mut W, day: &mut Day<'_>, code: &[u8]) -> Result<()> {
     match byte(code, 0) {
         b'B' => open(day, code),

@@ -98,6 +98,7 @@ pub fn write(c: Counters, rows: &[u8], lines: &[u8], ending: Option<u64>, out: &
     let end = printed(c, rows) + 3;
     let room = out.len();
     let mut at: usize = 0;
+    // Each line goes behind the one before, in what is left of the room: no iterator lends that.
     for k in 0..end {
         let n = line(c, rows, lines, ending, k, &mut out[at..]);
         at += lesser(n, room - at);

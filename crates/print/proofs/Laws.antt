@@ -37,10 +37,6 @@ then {m} {n} {l} {l₁} {l₂} {xs} {ys} {at} {r₁} {r₂} p q =
       near = simp length-append (omega (arith, p.near, q.near));
     }
 
--- how far a text reaches
-pub reach : (n k : ℕ) {m : ℕ} {l l₁ xs : List ℕ} {at r : ℕ} → Put m l at xs l₁ r → at ≤ n → n + m ≤ k → r ≤ k
-reach n k p h g = omega (arith, p.behind, p.near)
-
 -- the same text in other words, within a wider bound
 pub retold : (n : ℕ) {m : ℕ} {l l₁ xs ys : List ℕ} {at r : ℕ} → m ≤ n → xs ≡ ys → Put m l at xs l₁ r → Put n l at ys l₁ r
 retold n {m} {l} {l₁} {xs} {ys} {at} {r} h e p =

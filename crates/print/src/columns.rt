@@ -1,7 +1,7 @@
 // The figures of a row, each behind one space, and named counts. A place is a plain number with its bound in each
-// clause: as a type it would be taken apart wherever something is stored. Price, net and reported volume have a function
-// each: one for all would be handed what stores a figure as a closure, and say less plainly what is stored. A clause `fits` says what the type says of
-// a figure that came in.
+// clause: as a type it would be taken apart wherever something is stored. Price, net and reported volume have a
+// function each: one for all would be handed what stores a figure as a closure, and say less plainly what is stored.
+// A clause `fits` says what the type says of a figure that came in.
 ghost use Rattle.std.specs.Prelude.{◌≤◌, ◌∷◌, ◌++◌, length};
 ghost use Rattle.decimal.specs.Decimal.{decimal};
 ghost use Rattle.print.specs.Texts.{absent_text, price_text, net_text, count_text, reported_text};

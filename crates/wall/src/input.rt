@@ -13,7 +13,7 @@ use tape::Stop;
 // Room for a piece of the tape.
 const PIECE: usize = 4096;
 
-// What is known of the rest of the tape.
+// What is known of the rest of the tape: three cases, so no Option.
 #[derive(Clone, Copy)]
 pub enum Rest {
     // It may go on.
@@ -83,7 +83,8 @@ fn one<R: Read>(
     Tape { reading, rest }
 }
 
-// Plays the first n bytes of the piece.
+// Plays the first n bytes of the piece. The piece is all of the room that is read into, since what is held moves to its
+// front.
 fn play_on(reading: Reading, rows: &mut [u8], lines: &mut [u8], piece: &mut [u8], n: usize) -> Tape
     ensures stands { standing result.reading (lent result.reading.counters rows.new lines.new) piece.new
         ≡ gone reading.at (lent reading.counters rows.old lines.old) n piece.old }

@@ -31,7 +31,7 @@ pub fn print<W: Write>(out: &mut W, reading: Reading, rows: &[u8], lines: &[u8])
     put(out, &text, n)
 }
 
-// Writes the first n bytes of a text, or all.
+// Writes the first n bytes of a text, or all: `page::write` tells how many of the room it filled.
 fn put<W: Write>(out: &mut W, text: &[u8], n: usize) -> Result<()>
     ensures { OnOk result (Appends (W.contents out.old) (W.contents out.new) (take n text.now)) }
 {
