@@ -122,6 +122,11 @@ copied l s to from n a k e f =
     ap (λ (xs : List ℕ). take a l ++ (xs ++ drop k (drop a l))) (sym (part_cut s from k n (omega arith)))
     ∙ stored (part s from n) l to a k e (omega (arith, part_length s from n))
 
+-- what of n bytes would lie past the end goes nowhere
+pub clipped : (l s : List ℕ) (to from n a k : ℕ) → a ≡ min to (length l) → k ≡ min n (length l - a)
+    → sets l to (part s from k) ≡ sets l to (part s from n)
+clipped l s to from n a k e f = sym (copied l s to from k a k e (omega arith)) ∙ copied l s to from n a k e f
+
 -- ---- runs moved to the front
 
 take_within : (xs : List ℕ) (i e : ℕ) → i ≡ min e (length xs) → take i xs ≡ take e xs

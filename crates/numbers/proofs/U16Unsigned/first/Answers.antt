@@ -1,16 +1,8 @@
 -- `numbers::Unsigned::first` of u16 meets its contract.
 -- Assumes nothing.
-use mathlib.Core.Path.{refl, ap, ◌∙◌}
-use Rattle.std.specs.Int.{w16, from_be_bytes}
-use Rattle.octets.proofs.Ends.{part_inside}
-use Rattle.numbers.proofs.Std.{read_two}
+use native.Mathlib.Omega.{arith}
+use Rattle.numbers.proofs.Laws.{be_two}
 use Rattle.numbers.proofs.U16Unsigned.first.Goals as goal
 
-pub returns-in-Some : goal.returns-in-Some
-returns-in-Some c = let s = c.args.s.now in
-    let run = c.in-Some.ensures.cases in
-    c.from_be_bytes.ensures ∙ ap (from_be_bytes w16) (run.same ∙ part_inside s s 0 2 refl run.enough) ∙ read_two s 0
-
-pub returns-in-None : goal.returns-in-None
-returns-in-None c =
-    c.from_be_bytes-in-None.ensures ∙ ap (from_be_bytes w16) c.bytes.ensures ∙ read_two c.args.s.now 0
+pub returns : goal.returns
+returns c = omega (arith, c.from.ensures, c.from-2.ensures, c.byte.ensures, c.byte-2.ensures, be_two c.args.s.now 0)

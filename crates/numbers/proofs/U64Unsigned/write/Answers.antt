@@ -16,7 +16,7 @@ pub returns-in-Some : goal.returns-in-Some
 returns-in-Some c = let a = c.args in
     let xs = digits 8 a.self in
     let l : length xs ≡ 8 = digits_length 8 a.self in
-    let e : c.to_be_bytes.result ≡ xs = c.to_be_bytes.ensures ∙ written 8 a.self in
+    let e : c.to_be_bytes.result ≡ xs = c.to_be_bytes.ensures ∙ written 8 _ ∙ ap (digits 8) (omega arith) in
     let h : length xs ≤ length a.out.now = omega (arith, l, c.in-Some.ensures.cases.enough) in
     ap (λ (ys : List ℕ). ys ++ drop 8 a.out.now) e
     ∙ ap (λ (k : ℕ). xs ++ drop k a.out.now) (sym l)

@@ -3,10 +3,9 @@
 use mathlib.Core.Path.{ap, ◌∙◌}
 use mathlib.Core.List.{List}
 use Prim.Native.Nat.{ℕ}
-use native.Mathlib.Omega.{arith}
 use lib.ListN.{length}
 use Rattle.octets.specs.Run.{same}
-use Rattle.octets.proofs.Ends.{part_inside, part_ends}
+use Rattle.octets.proofs.Ends.{part_inside}
 use Rattle.octets.proofs.run.same_at.Goals as goal
 
 pub returns-then-t-run : goal.returns-then-t-run
@@ -14,8 +13,3 @@ returns-then-t-run c = let a = c.args in
     c.same_run.ensures
     ∙ ap (λ (xs : List ℕ). same xs a.t.now)
     (part_inside a.s.now c.rest-run.result.now a.at (length a.t.now) c.rest-run.ensures c.if-t-run.true)
-
-pub returns-else-t-run : goal.returns-else-t-run
-returns-else-t-run c = let a = c.args in
-    c.same_past.ensures
-    ∙ ap (λ (xs : List ℕ). same xs a.t.now) (part_ends a.s.now c.rest-run.result.now a.at (length a.t.now) c.rest-run.ensures (omega arith))

@@ -1,33 +1,25 @@
--- `octets::run::same_past` meets its contract.
+-- `octets::run::same_past` meets its contract. The loop: what is left of the two runs decides whether the whole are the same.
 -- Assumes nothing.
-use Prim.Native.Nat.{◌-◌}
-use mathlib.Core.Path.{ap, sym, ◌∙◌}
-use lib.Dec.{eqb}
-use lib.ListN.{length, take}
-use lib.Pointwise.{pointwise}
-use native.Mathlib.Omega.{arith}
-use borrow.Author.Rules.{rules}
-use Rattle.std.proofs.Common.{tests}
-use Rattle.std.proofs.lemmas.Iterator.{YieldsList-from_slice}
-use Rattle.std.proofs.lemmas.Iterator.Search.{all_from_yields_List}
-use Rattle.octets.specs.Run.{all}
-use Rattle.octets.proofs.Ends.{same_std, all_std, same_ends}
+use mathlib.Core.Path.{sym, ◌∙◌}
+use Rattle.octets.proofs.Laws.{part_left, same_more, same_stop, same_end}
 use Rattle.octets.proofs.run.same_past.Goals as goal
 
-pub returns-then-eq : goal.returns-then-eq
-returns-then-eq c = let run = c.args.run.now in
-    let t = c.args.t.now in
-    let past = c.split_at.result.1.now in
-    let front = ap (pointwise eqb run) c.split_at.ensures.front in
-    let e = sym (same_std run (take (length run) t)) ∙ sym (c.eq.ensures ∙ front) ∙ c.if-eq.true in
-    all_from_yields_List (λ x. eqb x 0) _ _ c.all.result c.all.ensures.ran (YieldsList-from_slice past cc)
-    (λ x b q k. search (rules, tests))
-    ∙ all_std 0 past ∙ ap (all 0) c.split_at.ensures.back
-    ∙ rw e at (same_ends run t (length t - length run) (omega arith))
+pub loop-i-init : goal.loop-i-init
+loop-i-init c = rw part_left
 
-pub returns-else-eq : goal.returns-else-eq
-returns-else-eq c = let run = c.args.run.now in
-    let t = c.args.t.now in
-    let front = ap (pointwise eqb run) c.split_at.ensures.front in
-    let e = sym (same_std run (take (length run) t)) ∙ sym (c.eq.ensures ∙ front) ∙ c.if-eq.false in
-    c.if-eq.false ∙ rw e at (same_ends run t (length t - length run) (omega arith))
+pub returns-then-byte_past-t : goal.returns-then-byte_past-t
+returns-then-byte_past-t c = let a = c.args in
+    let l = c.loop-i in
+    sym (same_stop a.s.now a.t.now a.at l.i c.loop-i-test.true
+    (λ e. c.if-byte_past-t.true (c.byte_past.ensures ∙ e))) ∙ l.invariant
+
+pub loop-i-preserved : goal.loop-i-preserved
+loop-i-preserved c = let a = c.args in
+    let l = c.loop-i in
+    sym (same_more a.s.now a.t.now a.at l.i c.loop-i-test.true
+    (sym c.byte_past.ensures ∙ c.if-byte_past-t.false)) ∙ l.invariant
+
+pub returns : goal.returns
+returns c = let a = c.args in
+    let l = c.loop-i in
+    sym (same_end a.s.now a.t.now a.at l.i c.loop-i-test.false) ∙ l.invariant
