@@ -151,5 +151,5 @@ fn is_bare(edition: Edition, b: &[u8; RECORD], kind: Kind) -> bool
 pub fn lawful(edition: Edition, b: &[u8; RECORD], kind: Kind) -> bool
     ensures { result ≡ lawful_in (layout_of edition kind) (record_of b.now) }
 {
-    kept(edition, b, kind) & is_bare(edition, b, kind)
+    kept(edition, b, kind) && is_bare(edition, b, kind)
 }

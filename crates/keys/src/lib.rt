@@ -6,6 +6,7 @@ ghost use Rattle.keys.specs.Keys as Keys;
 
 use kinds::{Kind, is_correction};
 use lines::Line;
+use octets::run::same_at;
 use records::{Record, Sale};
 
 // The key of a trade: the centre and the control.
@@ -38,13 +39,13 @@ pub fn new_key(kind: Kind, r: Record) -> [u8; lines::KEY]
     key_of(r.centre, new_sale(kind, r).control)
 }
 
-// Whether the line is the trade that the message names.
-#[tactic(auto, using(cells::proofs::Told::pointwise_same), unfolding(crate::specs::Keys::matches))]
+// Whether the line is the trade that the message names. Symbol and condition are compared by `same_at`, at once.
+#[tactic(auto, using(octets::proofs::Trips::whole), unfolding(crate::specs::Keys::matches))]
 pub fn is_match(r: Record, l: Line) -> bool
     ensures { result ≡ Keys.matches r l }
 {
-    l.symbol == r.symbol
+    same_at(&l.symbol, 0, &r.symbol)
         && l.price == r.sale.price
         && l.size == r.sale.size
-        && l.condition == r.sale.condition
+        && same_at(&l.condition, 0, &r.sale.condition)
 }
