@@ -1,7 +1,7 @@
 // A message read, a record written, and both told.
 use crate::told;
 use editions::Edition;
-use records::{RECORD, Record};
+use records::Record;
 use std::io::{Result, Write};
 
 // What a lent space holds before a record is written.
@@ -19,14 +19,9 @@ pub fn read<W: Write>(out: &mut W, message: &[u8]) -> Result<Record> {
     telling::hex(out, message)?;
     let said = message::read(Edition::NlsPlus, message);
     write!(out, "\nread {}", answers::number(said.map(|_| ())))?;
-    let found = said.unwrap_or(no_record());
+    let found = message::found(said);
     told::tell(out, found)?;
     Ok(found)
-}
-
-// The record that is told of a message that was refused: every field is zero.
-pub fn no_record() -> Record {
-    records::packed::record(&[0; RECORD])
 }
 
 // Writes a record, and tells the answer and the space's bytes.

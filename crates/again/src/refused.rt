@@ -38,5 +38,5 @@ pub fn writes<W: Write>(out: &mut W) -> Result<()> {
 
 // A trade report as it is read.
 fn report() -> Record {
-    message::read(Edition::NlsPlus, &of_type::<45>(b'T')).unwrap_or(back::no_record())
+    message::found(message::read(Edition::NlsPlus, &of_type::<45>(b'T')))
 }

@@ -32,10 +32,15 @@ use Rattle.book.proofs.deliver.Kinds as deliver-kinds
 use Rattle.book.specs.contracts.row as row
 use Rattle.book.proofs.row.Reads as row_reads
 use Rattle.book.proofs.row.Kinds as row-kinds
+use Rattle.book.proofs.shown_row.Reads as shown-row-reads
 
 pub fresh_one : (e e₁ e₂ : Edition) (r r' : Counters)
     → fresh-reads.Learnt tt (e, tt) r (e₁, tt) → fresh-reads.Learnt tt (e, tt) r' (e₂, tt) → r ≡ r'
 fresh_one e e₁ e₂ r r' h h' = h ∙ sym h'
+
+pub shown_row_one : (q e e' : Result RowShown Refusal) (r r' : RowShown) → shown-row-reads.Learnt tt (q, tt) r (e, tt)
+    → shown-row-reads.Learnt tt (q, tt) r' (e', tt) → r ≡ r'
+shown_row_one q e e' r r' h h' = h ∙ sym h'
 
 -- two calls that come to one outcome told the same
 said_same : (r r' : Said) (rows lines rows' lines' : List ℕ) (o : Outcome) → leaving r rows lines ≡ o → leaving r' rows' lines' ≡ o → r ≡ r'

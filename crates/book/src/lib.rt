@@ -91,7 +91,7 @@ fn take_message(
 {
     let edition = c.start.edition;
     let q = message::read(edition, message);
-    let r = q?;
+    let r = message::found(q);
     let kind = Kind::from(r.letter);
     let rooms = Rooms {
         rows,
@@ -168,4 +168,14 @@ pub fn row(c: Counters, rows: &[u8], lines: &[u8], symbol: [u8; 8]) -> Result<Ro
     let kept = rows::get(rows, i);
     let figures = walk::walk(lines, c.lines, symbol);
     Ok(show::shown(kept, figures))
+}
+
+// The row of a reading: of zeros and absent figures where it was refused.
+pub fn shown_row(said: Result<RowShown, Refusal>) -> RowShown
+    ensures { result ≡ (row_told said).row }
+{
+    match said {
+        Ok(row) => row,
+        Err(_) => show::nothing(),
+    }
 }

@@ -102,15 +102,10 @@ fn row_words(read: Result<RowShown, Refusal>, row: &mut [u64; words::ROW]) -> u8
     ensures answer { result ≡ number_of (row_told read).answer }
     ensures row { row.new ≡ row_words (row_told read).row }
 {
+    words::put_row(row, book::shown_row(read));
     match read {
-        Ok(shown) => {
-            words::put_row(row, shown);
-            told(Ok(()))
-        }
-        Err(refusal) => {
-            *row = [0; words::ROW];
-            told(Err(refusal))
-        }
+        Ok(_) => told(Ok(())),
+        Err(refusal) => told(Err(refusal)),
     }
 }
 

@@ -74,7 +74,7 @@ impl<'a> Day<'a> {
         let symbol = run::bytes(code, 1);
         let said = book::row(self.counters, self.rows.lent(), self.lines.lent(), symbol);
         tell_answer(out, said.map(|_| ()))?;
-        shown::tell(out, said.unwrap_or(show::nothing()))
+        shown::tell(out, book::shown_row(said))
     }
 
     // The writer by itself, into the rows' room: an event at 1,000 ms.
@@ -82,7 +82,7 @@ impl<'a> Day<'a> {
         let sound = message::read(Edition::NlsPlus, b"\x00\x00\x03\xe8SO");
         let r = Record {
             event: single::byte(code, 1),
-            ..sound.unwrap_or(records::packed::record(&[0; records::RECORD]))
+            ..message::found(sound)
         };
         tell_answer(out, message::write(Edition::NlsPlus, r, self.rows.lend()))?;
         write!(out, "; {}", self.rows.sum())

@@ -18,6 +18,7 @@ use Rattle.message.specs.Writer.{write_answer, write_out}
 use Rattle.message.specs.contracts.read as read
 use Rattle.message.proofs.read.Reads as read-reads
 use Rattle.message.proofs.read.Kinds as read-kinds
+use Rattle.message.proofs.found.Reads as found-reads
 use Rattle.message.specs.contracts.write as write
 use Rattle.message.proofs.write.Reads as write-reads
 use Rattle.message.proofs.write.Kinds as write-kinds
@@ -44,6 +45,10 @@ module _ (κs : Lfts 1) (a : ArgsD read.signature κs) where
   pub read_one : (r r' : Result Record Refusal) (s s' : AtExit (ended_of 1 read-kinds.ps read-kinds.r) κs) → read-reads.Learnt κs a r s
       → read-reads.Learnt κs a r' s' → r ≡ r'
   read_one r r' s s' h h' = one_reading r r' (h ∙ sym h')
+
+pub found_one : (q e e' : Result Record Refusal) (r r' : Record) → found-reads.Learnt tt (q, tt) r (e, tt)
+    → found-reads.Learnt tt (q, tt) r' (e', tt) → r ≡ r'
+found_one q e e' r r' h h' = h ∙ sym h'
 
 module _ (κs : Lfts 1) (a : ArgsD write.signature κs) where
   pub write_says : (r : Answer) (s : AtExit (ended_of 1 write-kinds.ps write-kinds.r) κs)

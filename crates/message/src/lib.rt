@@ -47,6 +47,16 @@ pub fn read(edition: Edition, message: &[u8]) -> Result<Record, Refusal>
     Ok(records::packed::record(&b))
 }
 
+// The record of a reading: of zeros where it was refused.
+pub fn found(reading: Result<Record, Refusal>) -> Record
+    ensures { result ≡ (reading_of reading).found }
+{
+    match reading {
+        Ok(r) => r,
+        Err(_) => records::packed::record(&[0; RECORD]),
+    }
+}
+
 // Writes the message of the record that eighty bytes are at the front of out, and leaves the rest of out as it was.
 // Answers 0, 5 or 18; where not 0, out stays. Any eighty bytes are a record that fits its types.
 pub fn write_packed(edition: Edition, b: &[u8; RECORD], out: &mut [u8]) -> Result<(), Refusal>
