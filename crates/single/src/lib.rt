@@ -18,7 +18,9 @@ pub fn byte(s: &[u8], at: usize) -> u8
     s.get(at).copied().unwrap_or(0)
 }
 
-// The byte j places past a place; the sum of the two may not fit a usize.
+// The byte j places past a place; the sum of the two may not fit a usize. It is apart, for bytes past the end are rare,
+// and so that a loop over them does not become a call of C's memset where all of them lie past it.
+#[inline(never)]
 pub fn byte_past(s: &[u8], at: usize, j: usize) -> u8
     ensures { result ≡ get_or s.now (at + j) 0 }
 {
